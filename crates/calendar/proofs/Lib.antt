@@ -1,0 +1,5 @@
+pub mod Marked
+pub mod Masks
+pub mod Tables
+pub mod Weekdays
+pub mod Working

@@ -1,0 +1,2 @@
+pub mod Peaking
+pub mod Rounding

@@ -1,0 +1,3 @@
+pub mod Peaks
+pub mod Charges
+pub mod Worked

@@ -1,0 +1,9 @@
+pub mod Ranges
+pub mod Refusals
+pub mod Charges
+pub mod Readings
+pub mod Sheets
+pub mod Parties
+pub mod Points
+pub mod Shelves
+pub mod Statements
