@@ -1,7 +1,7 @@
 -- Marks on the days of a month, and when a month's calendar is refused.
 use mathlib.Core.Path.{_≡_}
 use mathlib.Core.Bool.{Bool, false, _&&_, cond}
-use Prim.Native.Nat.{ℕ, _+_, _-_, _/_, _%_, _^_, _<_}
+use Prim.Native.Nat.{ℕ, _+_, _-_, _/_, _%_, _^_, _≤_, _<_}
 use lib.Dec.{eqb, ltb}
 use Rattle.std.specs.Orderings.{Decides}
 use Rattle.std.specs.declared.option.Option.{Option}
@@ -35,3 +35,8 @@ NoMarkAfter mask n = (d : ℕ) → n < d → marked mask d ≡ false
 
 abbrev pub FitsMeansNoMark : ℕ → ℕ → Type 0
 FitsMeansNoMark mask n = Decides (fits-in mask n) (NoMarkAfter mask n)
+
+-- a mask of n days that marks just those which a test picks
+pub record MarksJust (n : ℕ) (picked : ℕ → Bool) (mask : ℕ) : Type 0 where
+  pub fits : mask < 2 ^ n
+  pub days : (d : ℕ) → 1 ≤ d → d ≤ n → marked mask d ≡ picked d

@@ -1,3 +1,4 @@
 pub mod Peaks
 pub mod Charges
+pub mod Determinants
 pub mod Worked

@@ -18,7 +18,7 @@ pub enum PointKind {
 #[derive(Clone, Copy)]
 pub struct PointList {
     kinds: [PointKind; 400],
-    count: u32,
+    count: usize,
     ghost few: { count ≤ 400 },
     ghost full: { length kinds ≡ 400 },
 }

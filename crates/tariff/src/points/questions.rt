@@ -80,28 +80,29 @@ impl PointList {
         ensures answer { λ r. ⌜ r ≡ declared (length (kinds-of (now (self .entry)))) (kind-from letter line transformation) ⌝ }
         ensures after { λ r. ⌜ kinds-of (now (self .exit)) ≡ with-point r (kind-from letter line transformation) (kinds-of (now (self .entry))) ⌝ }
     {
-        if self.count >= MAX_POINTS {
+        let at = self.count;
+        if at >= MAX_POINTS as usize {
             return Err(Refusal::TooManyPoints);
         }
         let Some(kind) = PointKind::of(letter, line, transformation) else {
             return Err(Refusal::NotAPointKind);
         };
-        self.kinds[self.count as usize] = kind;
-        self.count += 1;
-        Ok(self.count)
+        self.kinds[at] = kind;
+        self.count = at + 1;
+        Ok(at as u32 + 1)
     }
 
     pub fn count(&self) -> u32
         ensures { λ r. ⌜ (r ≡ length (kinds-of (now (self .entry)))) × (r ≤ 400) ⌝ }
     {
-        self.count
+        self.count as u32
     }
 
     // What a point is, if it is declared.
     pub fn kind(&self, point: u32) -> Option<PointKind>
         ensures { λ r. ⌜ r ≡ kind-at (kinds-of (now (self .entry))) point ⌝ }
     {
-        if point < 1 || point > self.count {
+        if point < 1 || point as usize > self.count {
             return None;
         }
         Some(self.kinds[(point - 1) as usize])

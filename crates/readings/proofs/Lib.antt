@@ -1,0 +1,4 @@
+pub mod Bounds
+pub mod Firsts
+pub mod Missing
+pub mod Sums

@@ -1,0 +1,4 @@
+pub mod Meaning
+pub mod Options
+pub mod Demands
+pub mod Missing

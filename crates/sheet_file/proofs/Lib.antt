@@ -1,0 +1,4 @@
+pub mod Replies
+pub mod Hours
+pub mod Lengths
+pub mod Back

@@ -1,0 +1,5 @@
+pub mod Faults
+pub mod Values
+pub mod Sheets
+pub mod Files
+pub mod Writing
