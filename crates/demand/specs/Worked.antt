@@ -4,6 +4,7 @@ use mathlib.Core.Bool.{Bool, _&&_, cond}
 use mathlib.Core.List.{List, [], _∷_}
 use Prim.Native.Nat.{ℕ, zero, suc, _+_, _-_, _^_}
 use lib.Dec.{eqb, lit≤, lit<}
+use Rattle.std.specs.declared.option.Option.the-variants.{None}
 use Rattle.tariff.specs.declared.reading.Reading.the-variants.{Injection}
 use Rattle.tariff.specs.Ranges.{between}
 use Rattle.tariff.specs.Readings.{demand-of}
@@ -13,6 +14,7 @@ use Rattle.calendar.specs.Calendars.{first-in, length-in, working-in}
 use Rattle.hours.specs.Hours.{in-month, in-peak}
 use Rattle.demand.specs.Peaks.{Triple, peak-over}
 use Rattle.demand.specs.Charges.{network-of, charge-of}
+use Rattle.demand.specs.Determinants.{system-peak}
 
 -- May 2023: every day is a summer day, and Monday 22 May is a holiday
 abbrev pub may : Calendar
@@ -53,6 +55,10 @@ two-peaks = peak-over (in-month 5) (λ d h. cond (eqb d 3 && between 9 10 h) 500
 abbrev pub network-at : ℕ → ℕ → Triple
 network-at C Q = network-of (0, 17, 12) C (Q, 4, 18)
 
+-- a month of 31 days with no network point
+abbrev pub no-network : Triple
+no-network = system-peak [] 31 (λ p d. None)
+
 abbrev pub rows : List (ℕ × ℕ)
 rows =
     (month-start 2000 1, 0)
@@ -86,6 +92,9 @@ rows =
     ∷ (charge-of 10 500000, 1)
     ∷ (charge-of 9 500000, 0)
     ∷ (demand-of (Injection 700), 0)
+    ∷ (no-network .0, 0)
+    ∷ (no-network .1, 31)
+    ∷ (no-network .2, 24)
     ∷ []
 
 abbrev pub Agree : List (ℕ × ℕ) → Type 0

@@ -2,12 +2,10 @@
 ghost use mathlib.Core.Path.{_≡_};
 ghost use Rattle.std.specs.Slices.{found};
 ghost use Rattle.demand.specs.Charges.{charged, Nearest};
+use tariff::parties::MAX_RATE;
 
 // The largest determinant, in ten-thousandths of a kW.
 pub const MAX_DETERMINANT: u64 = 9_999_999_900;
-
-// The highest rate, in hundred-thousandths of a dollar per kW.
-pub const MAX_RATE: u32 = 10_000_000;
 
 // The charge in cents, rounded half up; None where a number is above its limit.
 pub fn charge(determinant: u64, rate: u32) -> Option<u64>

@@ -7,5 +7,5 @@ ghost use Rattle.demand.specs.Worked.{rows, Worked};
 pub fn worked_values() -> usize
     ensures { λ r. ⌜ (r ≡ length rows) × Worked ⌝ }
 {
-    31
+    34
 }

@@ -104,6 +104,7 @@ fn work<W: Write, E: Write>(
     let mut store = FullTable::new(memory.as_mut_slice(), points, days);
     post_file(&mut store, file, faults);
     if let Some(refusal) = first_missing(&store, points, days) {
+        write!(faults, "demands: ")?;
         tell(faults, refusal)?;
         return Ok(false);
     }
@@ -111,11 +112,33 @@ fn work<W: Write, E: Write>(
     Ok(true)
 }
 
-fn print_usage<W: Write>(out: &mut W) -> io::Result<()> {
-    writeln!(
-        out,
-        "usage: demands YEAR MONTH HOLIDAYS SUMMER POINTS < SHEETS"
-    )
+const USAGE: &str = "\
+usage: demands YEAR MONTH HOLIDAYS SUMMER POINTS < SHEETS
+  HOLIDAYS, SUMMER  days as 1,5,22-24, or - for none
+  POINTS            N, CL, CT or CLT for each point, as N,N,CLT, or - for none
+prints the system peak, and for each point and charge its billing demand:
+  peak|quantity|day|hour
+  point|650|determinant|day|hour|C|Q
+  point|651|determinant|day|hour
+  point|652|determinant|day|hour
+";
+
+// How the program is used: on standard output where that was asked for.
+fn explain<W: Write, E: Write>(
+    args: &[String],
+    out: &mut W,
+    faults: &mut E,
+) -> Result<bool, AnyError> {
+    let asked = match args {
+        [word] => word.as_str() == "--help",
+        _ => false,
+    };
+    if asked {
+        out.write_all(USAGE.as_bytes())?;
+    } else {
+        faults.write_all(USAGE.as_bytes())?;
+    }
+    Ok(asked)
 }
 
 // Takes the month from the arguments and the sheets from standard input; whether the demands were printed.
@@ -127,8 +150,7 @@ pub fn run<W: Write, E: Write>(
     let heap = rt.alloc();
     let args: Vec<String> = env::args(rt)?.skip(1).collect(heap)?;
     let [year, month, holidays, summer, points] = args.as_slice() else {
-        print_usage(faults)?;
-        return Ok(false);
+        return explain(args.as_slice(), out, faults);
     };
     match month_asked_for(
         year.as_str(),
@@ -143,6 +165,7 @@ pub fn run<W: Write, E: Write>(
             work(heap, &month, file.as_slice(), out, faults)
         }
         Err(fault) => {
+            write!(faults, "demands: ")?;
             tell_argument(faults, fault)?;
             Ok(false)
         }

@@ -33,7 +33,7 @@ pub fn post_file<S: SheetStore, W: Write>(store: &mut S, file: &[u8], faults: &m
     while let Some(outcome) = reader.next_sheet() {
         line = line.saturating_add(1);
         if let Err(refusal) = post_outcome(store, outcome) {
-            let _ = write!(faults, "line {line}: ");
+            let _ = write!(faults, "demands: line {line}: ");
             let _ = tell(faults, refusal);
         }
     }
