@@ -1,15 +1,16 @@
 -- The bits of a mask, one by one, and how many of them are set.
-use mathlib.Core.Path.{_≡_, refl, sym, ap, ap₂, subst, _∙_}
-use mathlib.Core.Bool.{Bool, true, false, not, _&&_, cond}
-use Prim.Native.Nat.{ℕ, zero, suc, _+_, _-_, _*_, _/_, _%_, _^_, _≤_, _<_, min}
+use mathlib.Core.Path.{_≡_, refl, sym, ap, _∙_}
+use mathlib.Core.Bool.{_||_}
+use Prim.Native.Nat.{ℕ, zero, suc, _+_, _-_, _*_, _/_, _%_, _^_, _<_, min}
 use native.Mathlib.Nat.{mod-one, mod-eq-of-lt, mod-lt}
-use native.Mathlib.Numerals.{one-add, add-one}
+use native.Mathlib.Numerals.{one-add}
 use native.Mathlib.Omega.{arith}
-use lib.Bits.{bitAnd, bitXor, and-shr, and-mod, and-mask, xor-shr, xor-mod, xor-add-and}
+use lib.Bits.{bitAnd, bitOr, bitXor, and-shr, and-mod, and-mask, or-shr, or-mod, xor-shr, xor-mod, xor-add-and}
 use lib.Count.{ones, onesIn, ones-cat}
-use lib.Dec.{eqb, ltb}
+use lib.Dec.{eqb}
 use lib.Pow.{pow-pos}
-use Rattle.std.proofs.shelf.Bits.{mod-pow-add, field-of, shr-shr}
+use Rattle.std.proofs.shelf.Bits.{mod-pow-add, field-of}
+use Rattle.calendar.specs.Marks.{marked}
 use Rattle.calendar.proofs.Tables.{same-below}
 
 abbrev pub bit : ℕ → ℕ → ℕ
@@ -33,6 +34,20 @@ xor-one : (x : ℕ) → x < 2 → bitXor x 1 ≡ 1 - x
 xor-one zero p = refl
 xor-one (suc zero) p = refl
 xor-one (suc (suc x)) p = absurd (omega arith)
+
+or-bits : (x y : ℕ) → x < 2 → y < 2 → eqb (bitOr x y) 1 ≡ (eqb x 1 || eqb y 1)
+or-bits zero zero p q = refl
+or-bits zero (suc zero) p q = refl
+or-bits (suc zero) zero p q = refl
+or-bits (suc zero) (suc zero) p q = refl
+or-bits zero (suc (suc y)) p q = absurd (omega arith)
+or-bits (suc zero) (suc (suc y)) p q = absurd (omega arith)
+or-bits (suc (suc x)) y p q = absurd (omega arith)
+
+-- a day is marked in two masks together where it is in one of them
+pub marked-or : (a b d : ℕ) → marked (bitOr a b) d ≡ (marked a d || marked b d)
+marked-or a b d =
+    ap (λ n. eqb (n % 2) 1) (or-shr a b (d - 1)) ∙ ap (λ n. eqb n 1) (or-mod (a / 2 ^ (d - 1)) (b / 2 ^ (d - 1)) 1) ∙ or-bits (bit a (d - 1)) (bit b (d - 1)) (omega arith) (omega arith)
 
 pub bit-and : (a b k : ℕ) → bit (bitAnd a b) k ≡ min (bit a k) (bit b k)
 bit-and a b k =

@@ -6,9 +6,9 @@ use native.Mathlib.Nat.{mod-lt}
 use native.Mathlib.Omega.{arith}
 use lib.Bits.{bitAnd, and-mask}
 use lib.Count.{ones}
-use lib.Dec.{eqb, leb, ltb}
+use lib.Dec.{eqb, ltb}
 use lib.Pow.{pow-pos}
-use Rattle.std.proofs.shelf.Bits.{one-shl, shr-shr, ones-le}
+use Rattle.std.proofs.shelf.Bits.{one-shl, shr-shr}
 use Rattle.std.proofs.shelf.Tests.{le-leb, and-from}
 use Rattle.calendar.specs.declared.month.Calendar.{Calendar}
 use Rattle.calendar.specs.Dates.{weekday-of}

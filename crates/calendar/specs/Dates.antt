@@ -1,6 +1,6 @@
 -- The Gregorian calendar from 2000 on: leap years, months, day numbers and weekdays.
 use Prim.Native.Nat.{ℕ, zero, suc, _+_, _-_, _%_}
-use mathlib.Core.Bool.{Bool, true, false, not, _&&_, _||_, cond}
+use mathlib.Core.Bool.{Bool, not, _&&_, _||_, cond}
 use lib.Dec.{eqb}
 
 -- every fourth year, but of the full centuries only every fourth

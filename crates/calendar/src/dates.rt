@@ -1,7 +1,7 @@
 // Days of the years 2000 to 2099. Day number 0 is 1 January 2000, a Saturday.
 ghost use mathlib.Core.Path.{_≡_};
-ghost use Prim.Native.Nat.{ℕ, _+_, _-_, _*_, _/_, _%_, _<_, _≤_};
-ghost use Rattle.calendar.specs.Dates.{is-leap, days-in, days-before-month, days-before-year, month-start, weekday-of};
+ghost use Prim.Native.Nat.{_+_, _-_, _*_, _/_, _%_, _<_, _≤_};
+ghost use Rattle.calendar.specs.Dates.{is-leap, days-in, days-before-month, month-start, weekday-of};
 
 pub const FIRST_YEAR: u32 = 2000;
 

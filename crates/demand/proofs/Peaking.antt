@@ -1,15 +1,15 @@
 -- The search for the peak: its steps, what it finds, and that nothing else is the peak.
 use mathlib.Core.Path.{_≡_, refl, sym, ap, ap₂, subst, _∙_}
 use mathlib.Core.Logic.{_⊎_, inl, inr, ⊎-elim}
-use mathlib.Core.Bool.{Bool, true, false, _&&_, cond}
+use mathlib.Core.Bool.{Bool, true, false, cond}
 use Prim.Native.Nat.{ℕ, zero, suc, _+_, _-_, _*_, _≤_, _<_}
 use native.Mathlib.Nat.{add-zero}
 use native.Mathlib.Numerals.{add-one}
 use native.Mathlib.Omega.{arith}
 use lib.Dec.{leb}
-use Rattle.std.proofs.shelf.Tests.{cases-bool, cases-lt, cases-eq, cases-order, and-parts, and-from, and-cases, leb-true, leb-false, cond-true, cond-false, both-ways}
+use Rattle.std.proofs.shelf.Tests.{cases-lt, leb-true, leb-false, both-ways}
 use Rattle.hours.specs.Hours.{Inside}
-use Rattle.demand.specs.Peaks.{Triple, taken, best-of-day, peak-over, NotAfter, NoHour, PeakAt, IsPeak, Alike}
+use Rattle.demand.specs.Peaks.{Triple, taken, best-of-day, peak-over, NotAfter, IsPeak, Alike}
 
 module _ (A : ℕ → ℕ → Bool) (q : ℕ → ℕ → ℕ) where
   hour-more : (best : Triple) (d k : ℕ) → taken (A d (suc k)) (q d (suc k)) d (suc k) (best-of-day A q best d k) ≡ best-of-day A q best d (suc k)

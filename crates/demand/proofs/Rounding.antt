@@ -1,5 +1,5 @@
 -- A charge is the nearest cent, and small enough for a ledger line.
-use Prim.Native.Nat.{ℕ, _+_, _*_, _≤_, _<_, _^_}
+use Prim.Native.Nat.{ℕ, _*_, _≤_}
 use native.Mathlib.Omega.{arith}
 use Rattle.std.proofs.shelf.Bits.{mul-le}
 use Rattle.demand.specs.Charges.{charge-of, Nearest}

@@ -1,5 +1,4 @@
 // Readings as hourly quantities.
-ghost use mathlib.Core.Path.{_≡_};
 ghost use denote.Ref.{now};
 ghost use lib.ListN.{length};
 ghost use Rattle.tariff.specs.Points.{kinds-of};

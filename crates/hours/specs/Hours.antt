@@ -1,7 +1,7 @@
 -- The hours of a month, and those that a rule admits.
 use mathlib.Core.Path.{_≡_}
 use mathlib.Core.Bool.{Bool, true, false, _&&_, cond}
-use Prim.Native.Nat.{ℕ, _≤_}
+use Prim.Native.Nat.{ℕ, _+_, _-_, _≤_}
 use native.Mathlib.Omega.{arith}
 use Rattle.std.proofs.shelf.Tests.{and-parts}
 use Rattle.tariff.specs.Ranges.{between, within, between-parts}
@@ -20,7 +20,11 @@ in-month days d h = within days d && within 24 h
 abbrev pub in-peak : Calendar → ℕ → ℕ → Bool
 in-peak c d h = is-working c d && cond (is-summer c d) (between 7 18 h) (between 8 19 h)
 
--- ---- neither admits an hour outside the month
+-- every hour of the days with service, in a month of so many days from the day number `first` on
+abbrev pub in-service : ℕ → ℕ → (ℕ → Bool) → ℕ → ℕ → Bool
+in-service days first served d h = in-month days d h && served (first + (d - 1))
+
+-- ---- none admits an hour outside the month
 
 pub month-within : (days d h : ℕ) → in-month days d h ≡ true → Inside days d h
 month-within days d h e = let p = and-parts (within days d) _ e in (between-parts 1 days d (p .0), between-parts 1 24 h (p .1))

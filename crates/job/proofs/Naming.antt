@@ -2,34 +2,15 @@
 use mathlib.Core.Path.{_≡_, refl, sym, ap, ap₂, _∙_}
 use mathlib.Core.Bool.{Bool, true, false, _||_}
 use mathlib.Core.List.{List, [], _∷_, _++_, append-assoc}
-use Prim.Native.Nat.{ℕ, zero, suc, _-_, _/_, _%_, _^_, _<_}
-use native.Mathlib.Omega.{arith}
-use lib.Bits.{bitOr, or-lt, or-shr, or-mod}
-use lib.Dec.{eqb}
+use Prim.Native.Nat.{ℕ}
+use lib.Bits.{bitOr, or-lt}
 use Rattle.std.specs.Options.{mapped}
 use Rattle.std.specs.declared.option.Option.{Option}
 use Rattle.std.specs.declared.option.Option.the-variants.{Some, None}
-use Rattle.calendar.specs.Marks.{marked, MarksJust}
-use Rattle.calendar.proofs.Masks.{bit}
+use Rattle.calendar.specs.Marks.{MarksJust}
+use Rattle.calendar.proofs.Masks.{marked-or}
 use Rattle.job.specs.declared.days.DayRange.{DayRange}
 use Rattle.job.specs.Days.{bind, range-of, ranges-of, names, named}
-
--- ---- bits of two masks that are joined
-
-or-bits : (x y : ℕ) → x < 2 → y < 2 → eqb (bitOr x y) 1 ≡ (eqb x 1 || eqb y 1)
-or-bits zero zero p q = refl
-or-bits zero (suc zero) p q = refl
-or-bits (suc zero) zero p q = refl
-or-bits (suc zero) (suc zero) p q = refl
-or-bits zero (suc (suc y)) p q = absurd (omega arith)
-or-bits (suc zero) (suc (suc y)) p q = absurd (omega arith)
-or-bits (suc (suc x)) y p q = absurd (omega arith)
-
-marked-or : (a b d : ℕ) → marked (bitOr a b) d ≡ (marked a d || marked b d)
-marked-or a b d =
-    ap (λ n. eqb (n % 2) 1) (or-shr a b (d - 1)) ∙ ap (λ n. eqb n 1) (or-mod (a / 2 ^ (d - 1)) (b / 2 ^ (d - 1)) 1) ∙ or-bits (bit a (d - 1)) (bit b (d - 1)) (omega arith) (omega arith)
-
--- ---- the ranges so far
 
 or-assoc : (a b c : Bool) → ((a || b) || c) ≡ (a || (b || c))
 or-assoc true b c = refl

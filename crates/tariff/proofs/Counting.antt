@@ -1,19 +1,18 @@
 -- The points declared so far, and one more.
 use mathlib.Core.Path.{_≡_, sym, ap, _∙_}
-use mathlib.Core.List.{List, [], _∷_, _++_}
+use mathlib.Core.List.{List, _++_}
 use Prim.Native.Nat.{ℕ, _+_, _-_, _≤_, _<_}
 use native.Mathlib.Omega.{arith}
-use lib.Dec.{ltb}
 use lib.ListN.{length, getD, set, take}
 use Rattle.std.specs.declared.option.Option.{Option}
-use Rattle.std.specs.declared.option.Option.the-variants.{Some, None}
+use Rattle.std.specs.declared.option.Option.the-variants.{Some}
 use Rattle.std.specs.declared.result.Result.the-variants.{Ok}
 use Rattle.std.specs.Vec.{listOf}
 use Rattle.std.proofs.shelf.Lists.{length-take-le, take-more-set, getD-take}
 use Rattle.std.proofs.shelf.Tests.{cond-true, lt-ltb}
 use Rattle.tariff.specs.declared.points.PointKind.{PointKind}
 use Rattle.tariff.specs.declared.points.PointKind.the-variants.{Network}
-use Rattle.tariff.specs.Ranges.{within, within-from}
+use Rattle.tariff.specs.Ranges.{within-from}
 use Rattle.tariff.specs.Points.{kind-at, numbered, declared}
 
 module _ (kinds : List PointKind) (count : ℕ) (some : count ≤ length kinds) where

@@ -1,7 +1,6 @@
 // What points are declared, and what is asked of them.
 ghost use mathlib.Core.Path.{_≡_};
-ghost use mathlib.Core.Bool.{cond};
-ghost use mathlib.Core.List.{[], _++_};
+ghost use mathlib.Core.List.{[]};
 ghost use Prim.Native.Nat.{_≤_};
 ghost use lib.ListN.{length};
 ghost use Rattle.tariff.specs.Points.{is-network, has, kind-from, kinds-of, kind-at, declared, with-point};

@@ -1,4 +1,4 @@
-use mathlib.Core.Path.{_≡_, sym, ap₂}
+use mathlib.Core.Path.{_≡_, ap₂}
 use Prim.Native.Nat.{_+_, _-_, _*_, _/_}
 use native.Mathlib.Omega.{arith}
 use Rattle.calendar.specs.Dates.{month-start}

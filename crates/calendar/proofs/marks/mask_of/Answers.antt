@@ -1,5 +1,5 @@
-use mathlib.Core.Path.{_≡_, sym, ap, subst}
-use Prim.Native.Nat.{_+_, _^_, _≤_, _<_, min}
+use mathlib.Core.Path.{_≡_, sym, subst}
+use Prim.Native.Nat.{_+_, _^_, _≤_, min}
 use native.Mathlib.Nat.{lt-of-lt-of-le}
 use native.Mathlib.Omega.{arith}
 use lib.Pow.{pow-mono}

@@ -1,7 +1,7 @@
 use mathlib.Core.Path.{_≡_, refl, sym, ap, subst, _∙_}
 use native.Mathlib.Nat.{le-trans}
 use native.Mathlib.Omega.{arith}
-use Rattle.demand.specs.Peaks.{Triple, peak-over, IsPeak}
+use Rattle.demand.specs.Peaks.{peak-over, IsPeak}
 use Rattle.demand.proofs.Peaking.{peak-more, peak-is, peak-unique, peak-bounded, peak-greatest, peak-alike}
 use Rattle.demand.proofs.search.peak.Needs as need
 

@@ -1,0 +1,5 @@
+pub mod Steps
+pub mod Entering
+pub mod Shifting
+pub mod Laws
+pub mod Keeping
