@@ -1,6 +1,8 @@
 -- Statement types by rank, and their turn.
 use mathlib.Core.Bool.{Bool}
+use mathlib.Core.List.{List}
 use Prim.Native.Nat.{ℕ}
+use lib.Chars.{codes}
 use lib.Dec.{eqb, ltb}
 use mathlib.Core.Bool.{cond}
 use Rattle.std.specs.declared.option.Option.{Option}
@@ -18,6 +20,18 @@ rank-of R4 = 5
 rank-of R5 = 6
 rank-of R6 = 7
 rank-of RF = 8
+
+-- the letters by which a type is known
+abbrev pub letters-of : Statement → List ℕ
+letters-of P = codes "P"
+letters-of F = codes "F"
+letters-of R1 = codes "R1"
+letters-of R2 = codes "R2"
+letters-of R3 = codes "R3"
+letters-of R4 = codes "R4"
+letters-of R5 = codes "R5"
+letters-of R6 = codes "R6"
+letters-of RF = codes "RF"
 
 abbrev pub same-statement : Statement → Statement → Bool
 same-statement a b = eqb (rank-of a) (rank-of b)

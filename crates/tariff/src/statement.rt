@@ -1,6 +1,6 @@
 // Statement types and their turn.
 ghost use mathlib.Core.Path.{_≡_};
-ghost use Rattle.tariff.specs.Statements.{rank-of, in-turn};
+ghost use Rattle.tariff.specs.Statements.{rank-of, in-turn, letters-of};
 
 // The types by rank: preliminary, final, six resettlements, and the last one.
 #[derive(Clone, Copy)]
@@ -30,6 +30,23 @@ impl Statement {
             Statement::R5 => 6,
             Statement::R6 => 7,
             Statement::RF => 8,
+        }
+    }
+
+    // The letters by which the type is known.
+    pub fn letters(self) -> &'static [u8]
+        ensures { λ r. ⌜ now r ≡ letters-of self ⌝ }
+    {
+        match self {
+            Statement::P => b"P",
+            Statement::F => b"F",
+            Statement::R1 => b"R1",
+            Statement::R2 => b"R2",
+            Statement::R3 => b"R3",
+            Statement::R4 => b"R4",
+            Statement::R5 => b"R5",
+            Statement::R6 => b"R6",
+            Statement::RF => b"RF",
         }
     }
 

@@ -1,5 +1,5 @@
 -- Digits read to a number, and a number's digits read back.
-use mathlib.Core.Path.{_≡_, sym, ap, _∙_}
+use mathlib.Core.Path.{_≡_, refl, sym, ap, _∙_}
 use mathlib.Core.Bool.{true, false, _&&_}
 use mathlib.Core.List.{List, [], _∷_}
 use Prim.Native.Nat.{ℕ, _+_, _-_, _*_, _^_, _≤_, _<_}
@@ -8,15 +8,17 @@ use native.Mathlib.Numerals.{add-one}
 use native.Mathlib.Nat.{pow-suc, pow-le-pow-right}
 use borrow.Author.Needs.{needs}
 use lib.Dec.{leb, ltb}
+use lib.IntN.{ℤ, pos, negsuc, natAbs}
 use lib.ListN.{length, getD, drop}
+use lib.Signed.{ltZ, mag}
 use Rattle.std.specs.Text.{asciiDigit}
-use Rattle.std.specs.Written.{decimal}
+use Rattle.std.specs.Written.{decimal, signed}
 use Rattle.std.specs.shelf.Text.{allDigits}
 use Rattle.std.specs.declared.option.Option.the-variants.{Some, None}
 use Rattle.std.proofs.shelf.Lists.{at-drop-more}
 use Rattle.std.proofs.shelf.Numerals.{Numerals, numerals-by-fold}
 use Rattle.std.proofs.shelf.Decimals.{digits-decimal, value-decimal, decimal-some, length-decimal-le}
-use Rattle.std.proofs.shelf.Tests.{both-ways, cond-true, cond-false, and-from, and-parts, and-right, lt-ltb, le-leb}
+use Rattle.std.proofs.shelf.Tests.{both-ways, cond-true, cond-false, and-from, and-parts, and-right, lt-ltb, ltb-true, le-leb}
 use Rattle.text.specs.Format.{read-on, number-of}
 use Rattle.text.specs.Laws.{Free}
 
@@ -56,6 +58,20 @@ free-digits mark (c ∷ cs) other h =
 -- a number's digits hold no mark that is not one
 pub free-decimal : (mark n : ℕ) → asciiDigit mark ≡ false → n < 2 ^ 64 → Free mark (decimal n)
 free-decimal mark n other h = free-digits mark (decimal n) other (digits-decimal own n h)
+
+-- a signed number's text, by its sign
+pub signed-negative : (z : ℤ) → ltZ z (pos 0) ≡ true → signed z ≡ 45 ∷ decimal (natAbs z)
+signed-negative (pos n) e = absurd (omega (arith, ltb-true n 0 e))
+signed-negative (negsuc n) e = refl
+
+pub signed-natural : (z : ℤ) → ltZ z (pos 0) ≡ false → signed z ≡ decimal (natAbs z)
+signed-natural (pos n) e = refl
+signed-natural (negsuc n) e = absurd (both-ways true e refl)
+
+-- it holds no mark that is neither a digit nor `-`
+pub free-signed : (mark : ℕ) (z : ℤ) → asciiDigit mark ≡ false → (45 ≡ mark → ⊥) → mag z < 2 ^ 63 → Free mark (signed z)
+free-signed mark (pos n) other minus h = free-decimal mark n other (omega arith)
+free-signed mark (negsuc n) other minus h = (minus, free-decimal mark _ other (omega arith))
 
 -- a written number is read as the same number
 pub number-back : (most n : ℕ) → 0 < most → n < 10 ^ most → n < 2 ^ 64 → number-of most (decimal n) ≡ Some n

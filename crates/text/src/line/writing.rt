@@ -1,8 +1,9 @@
 // What is written to a line, and how it is handed over.
 ghost use mathlib.Core.Path.{_≡_};
 ghost use mathlib.Core.List.{[], _∷_, _++_};
+ghost use Prim.Native.Nat.{_≤_};
 ghost use lib.ListN.{length, take};
-ghost use Rattle.std.specs.Written.{decimal};
+ghost use Rattle.std.specs.Written.{decimal, signed};
 ghost use Rattle.text.specs.Texts.{text-of, fitting, overlay};
 use super::ROOM;
 use super::Text;
@@ -36,6 +37,37 @@ impl Text {
             self.push_number(n / 10);
         }
         self.push(b'0' + (n % 10) as u8);
+    }
+
+    // The decimal digits of `v`, as few as write it, after a `-` where it is negative.
+    pub fn push_signed(&mut self, v: i64)
+        ensures { λ _. ⌜ text-of (now (self .exit)) ≡ take 256 (text-of (now (self .entry)) ++ signed v) ⌝ }
+    {
+        if v < 0 {
+            self.push(b'-');
+        }
+        self.push_number(v.unsigned_abs());
+    }
+
+    pub fn push_bytes(&mut self, part: &[u8])
+        ensures { λ _. ⌜ text-of (now (self .exit)) ≡ take 256 (text-of (now (self .entry)) ++ now (part .entry)) ⌝ }
+    {
+        for b in part {
+            self.push(*b);
+        }
+    }
+
+    // What is written so far.
+    pub fn as_bytes(&self) -> &[u8]
+        ensures { λ r. ⌜ now r ≡ text-of (now (self .entry)) ⌝ }
+    {
+        &self.bytes[0..self.len]
+    }
+
+    pub fn len(&self) -> usize
+        ensures { λ r. ⌜ (r ≡ length (text-of (now (self .entry)))) × (r ≤ 256) ⌝ }
+    {
+        self.as_bytes().len()
     }
 
     // Copies the line to the front of `out` and answers its length, or None where it does not fit.
