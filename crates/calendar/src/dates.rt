@@ -1,7 +1,7 @@
 // Days of the years 2000 to 2099. Day number 0 is 1 January 2000, a Saturday.
 ghost use mathlib.Core.Path.{_≡_};
 ghost use Prim.Native.Nat.{_+_, _-_, _*_, _/_, _%_, _<_, _≤_};
-ghost use Rattle.calendar.specs.Dates.{is-leap, days-in, days-before-month, month-start, weekday-of};
+ghost use Rattle.calendar.specs.Dates.{is-leap, days-in, days-before-month, month-start, number-on, weekday-of};
 
 pub const FIRST_YEAR: u32 = 2000;
 
@@ -41,6 +41,19 @@ pub(crate) fn first_day(year: u32, month: u32) -> u32
 {
     let years = year - FIRST_YEAR;
     365 * years + (years + 3) / 4 + days_before_month(year, month)
+}
+
+// The day number of a date; None where the years from 2000 to 2099 have no such date.
+pub fn day_number(year: u32, month: u32, day: u32) -> Option<u32>
+    ensures { λ r. ⌜ r ≡ number-on year month day ⌝ }
+{
+    if year < FIRST_YEAR || year > LAST_YEAR || month < 1 || month > 12 {
+        return None;
+    }
+    if day < 1 || day > days_in_month(year, month) {
+        return None;
+    }
+    Some(first_day(year, month) + (day - 1))
 }
 
 // 0 is Monday and 6 is Sunday.

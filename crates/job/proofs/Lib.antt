@@ -1,2 +1,5 @@
 pub mod Capping
 pub mod Naming
+pub mod Masking
+pub mod Getting
+pub mod Calling

@@ -1,3 +1,8 @@
 pub mod Numbers
 pub mod Days
 pub mod Points
+pub mod Masks
+pub mod Values
+pub mod Said
+pub mod Commands
+pub mod Lines

@@ -6,6 +6,7 @@ ghost use Rattle.tariff.specs.Points.{kinds-of};
 ghost use Rattle.records.specs.Entering.{dated, entered-shelf};
 ghost use Rattle.records.specs.Histories.{shelf-of};
 ghost use Rattle.month.specs.Answers.{party-answer, service-answer, rates-answer};
+use dues::histories::RATES_SUBJECT;
 use records::history::History;
 use records::range::LAST_FROM_DAY;
 use records::range::PartyRanged;
@@ -17,9 +18,6 @@ use tariff::parties::Service;
 use tariff::points::MAX_POINTS;
 use tariff::points::PointList;
 use tariff::refusal::Refusal;
-
-// The subject that the rates stand under.
-const RATES_SUBJECT: u32 = 0;
 
 // Enters a customer or a transmitter of a point. Refuses an unsound history, then a point that is not declared, a from-day
 // after the last, a party number out of range, and a new entry without a place left.

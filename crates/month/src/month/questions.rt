@@ -11,6 +11,7 @@ ghost use Rattle.ledger.specs.Sums.{credit-of, total-of};
 ghost use Rattle.listing.specs.Listings.{listing-of, listing-answer};
 ghost use Rattle.month.specs.States.{state-of};
 use super::OpenMonth;
+use dues::histories::RATES_SUBJECT;
 use hours::rules::HourRule;
 use ledger::line::Account;
 use ledger::line::Line;
@@ -95,6 +96,6 @@ impl<'a, S: SheetStore, H: HourRule> OpenMonth<'a, S, H> {
     pub fn rates(&self, day_number: u32) -> Option<Rates>
         ensures { λ r. ⌜ r ≡ latest (items (state-of (S·Readings .meaning) (H·HourRule .admits) (now (self .entry)) .records .rates)) 0 «day_number» ⌝ }
     {
-        self.rates.on_record(0, day_number)
+        self.rates.on_record(RATES_SUBJECT, day_number)
     }
 }
