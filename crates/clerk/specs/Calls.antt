@@ -17,7 +17,7 @@ use Rattle.month.specs.declared.calls.Call.TheVariants as call
 use Rattle.month.specs.declared.calls.Outcome.{Outcome}
 use Rattle.month.specs.declared.calls.Outcome.TheVariants as outcomes
 use Rattle.month.specs.States.{State}
-use Rattle.month.specs.Answers.{answer as outcome-of, next}
+use Rattle.month.specs.Answers.{answer as outcome_of, next}
 use Rattle.month.specs.Laws.{is_issue}
 use Rattle.clerk.specs.declared.answers.Answer.{Answer}
 use Rattle.clerk.specs.declared.answers.Answer.TheVariants.{Done, Lines, Cents, Peak, Refused}
@@ -52,7 +52,7 @@ answer_to c (outcomes.Accepted n) = cond (is_issue c) (Lines n) Done
 answer_to c (outcomes.Refused e) = Refused e
 
 abbrev pub called : State → Result Call Refusal → Answer
-called s (Ok c) = answer_to c (outcome-of s c)
+called s (Ok c) = answer_to c (outcome_of s c)
 called s (Err e) = Refused e
 
 abbrev pub in_cents : Result ℤ Refusal → Answer

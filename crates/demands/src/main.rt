@@ -1,4 +1,6 @@
 // Prints the billing demands of a month of sheets.
+#![tactic(auto)]
+
 use anyhow::anyhow;
 use desk::demands::run;
 use std::io::{BufWriter, Write};

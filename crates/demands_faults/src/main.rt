@@ -1,4 +1,6 @@
 // The program `demands` on a faulty file: what it tells of faults goes to standard output too, before the demands.
+#![tactic(auto)]
+
 use desk::demands::run;
 use std::io::{BufWriter, Write};
 

@@ -1,4 +1,6 @@
 // Settles the worked month of May 2023 through a run of its calls, and prints the ledger's listing.
+#![tactic(auto)]
+
 mod journal;
 
 use anyhow::anyhow;

@@ -21,7 +21,7 @@ use Rattle.records.specs.Entering.{dated, entry_answer}
 use Rattle.records.specs.Soundness.{sound_within}
 use Rattle.ledger.specs.declared.line.Line.{Line}
 use Rattle.ledger.specs.Dues.{DueFacts}
-use Rattle.ledger.specs.Ledgers.{sound_ledger, issue_answer as ledger-answer}
+use Rattle.ledger.specs.Ledgers.{sound_ledger, issue_answer as ledger_answer}
 use Rattle.dues.specs.Records.{sound_records}
 use Rattle.dues.specs.Facts.{refusal_of}
 use Rattle.dues.specs.Dues.{dues_of, unless}
@@ -90,9 +90,9 @@ rates_entered h d x ok =
 pub record Issuable (s : State) (st : Statement) : Type 0 where
   pub sound : sound_records s.records ≡ true
   pub complete : refusal_of (facts_at s) ≡ None
-  pub taken : is_ok (ledger-answer s.ledger st (dues_of (facts_at s))) ≡ true
+  pub taken : is_ok (ledger_answer s.ledger st (dues_of (facts_at s))) ≡ true
 
-dues_issued : (g : Shelf Line) (st : Statement) (o : Option Refusal) (dues : List DueFacts) → is_ok (issue_of g st (unless o dues)) ≡ true → (o ≡ None) × (is_ok (ledger-answer g st dues) ≡ true)
+dues_issued : (g : Shelf Line) (st : Statement) (o : Option Refusal) (dues : List DueFacts) → is_ok (issue_of g st (unless o dues)) ≡ true → (o ≡ None) × (is_ok (ledger_answer g st dues) ≡ true)
 dues_issued g st None dues ok = (refl, ok)
 dues_issued g st (Some e) dues ok = absurd (false≢true ok)
 

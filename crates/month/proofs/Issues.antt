@@ -8,7 +8,7 @@ use Rattle.tariff.specs.Shelves.{Shelf}
 use Rattle.tariff.specs.Statements.{in_turn}
 use Rattle.ledger.specs.declared.line.Line.{Line}
 use Rattle.ledger.specs.Dues.{DueFacts}
-use Rattle.ledger.specs.Ledgers.{sound_ledger, if_sound, issued, issue_answer as ledger-answer}
+use Rattle.ledger.specs.Ledgers.{sound_ledger, if_sound, issued, issue_answer as ledger_answer}
 use Rattle.dues.specs.Records.{sound_records}
 use Rattle.dues.specs.Facts.{refusal_of}
 use Rattle.dues.specs.Dues.{dues_of, dues_answer, unless}
@@ -64,10 +64,10 @@ module _ (s : State) (st : Statement) (ds : List DueFacts) (by : Ok ds ≡ dues_
       let sound = some_passed (sound_records s.records) complete Unsound ds ready in
       unless_is (refusal_of (facts_at s)) (dues_of (facts_at s)) ds sound
 
-  answer_is : ledger-answer s.ledger st ds ≡ issue_answer s st
+  answer_is : ledger_answer s.ledger st ds ≡ issue_answer s st
   answer_is = ap (issue_of s.ledger st) by
 
-  pub issue_accepted : (n : ℕ) (g : Shelf Line) → Ok n ≡ ledger-answer s.ledger st ds → g ≡ issued s.ledger st ds
+  pub issue_accepted : (n : ℕ) (g : Shelf Line) → Ok n ≡ ledger_answer s.ledger st ds → g ≡ issued s.ledger st ds
       → (Accepted n ≡ answer s (Issue st))
       × (record { setup = s.setup; store = s.store; records = s.records; ledger = g; last = Some st } ≡ next s (Issue st))
   issue_accepted n g says leaves =

@@ -19,7 +19,7 @@ use Rattle.records.specs.Entering.{dated, entered_shelf, entry_answer}
 use Rattle.records.specs.Soundness.{sound_within}
 use Rattle.ledger.specs.declared.line.Line.{Line}
 use Rattle.ledger.specs.Dues.{DueFacts}
-use Rattle.ledger.specs.Ledgers.{sound_ledger, issued, issue_answer as ledger-answer}
+use Rattle.ledger.specs.Ledgers.{sound_ledger, issued, issue_answer as ledger_answer}
 use Rattle.dues.specs.Records.{Records, sound_records}
 use Rattle.dues.specs.Dues.{dues_of, dues_answer}
 use Rattle.month.specs.declared.calls.Call.{Call}
@@ -76,7 +76,7 @@ dues_to_issue s st =
 
 -- an issue of what is due
 abbrev pub issue_of : Shelf Line → Statement → Result (List DueFacts) Refusal → Result ℕ Refusal
-issue_of g st (Ok dues) = ledger-answer g st dues
+issue_of g st (Ok dues) = ledger_answer g st dues
 issue_of g st (Err e) = Err e
 
 abbrev pub issue_answer : State → Statement → Result ℕ Refusal

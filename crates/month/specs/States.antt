@@ -6,9 +6,9 @@ use Rattle.tariff.specs.Points.{kinds_of}
 use Rattle.tariff.specs.Shelves.{Shelf}
 use Rattle.calendar.specs.Calendars.{length_in, first_in}
 use Rattle.readings.specs.Meaning.{Meaning}
-use Rattle.records.specs.Histories.{shelf_of as history-shelf}
+use Rattle.records.specs.Histories.{shelf_of as history_shelf}
 use Rattle.ledger.specs.declared.line.Line.{Line}
-use Rattle.ledger.specs.Ledgers.{shelf_of as ledger-shelf}
+use Rattle.ledger.specs.Ledgers.{shelf_of as ledger_shelf}
 use Rattle.dues.specs.Records.{Records}
 use Rattle.dues.specs.Facts.{Facts, facts_by}
 use Rattle.month.specs.declared.setup.MonthSetup.{MonthSetup}
@@ -39,12 +39,12 @@ state_of meaning admits m = record {
   setup = setup_of m.setup (admits m.peak_period);
   store = meaning m.store;
   records = record {
-    customers = history-shelf m.customers;
-    transmitters = history-shelf m.transmitters;
-    service = history-shelf m.service;
-    rates = history-shelf m.rates;
+    customers = history_shelf m.customers;
+    transmitters = history_shelf m.transmitters;
+    service = history_shelf m.service;
+    rates = history_shelf m.rates;
   };
-  ledger = ledger-shelf m.ledger;
+  ledger = ledger_shelf m.ledger;
   last = m.last;
 }
 

@@ -3,8 +3,8 @@ ghost use Rattle.std.specs.Prelude.{◌≡◌, [], length, Some, None, MatchResu
 ghost use Rattle.tariff.specs.Points.{kinds_of, kind_from, declared, with_point};
 ghost use Rattle.calendar.specs.Calendars.{Holds};
 ghost use Rattle.calendar.specs.Marks.{refusal_of};
-ghost use Rattle.records.specs.Histories.{shelf_of as history-shelf};
-ghost use Rattle.ledger.specs.Ledgers.{shelf_of as ledger-shelf};
+ghost use Rattle.records.specs.Histories.{shelf_of as history_shelf};
+ghost use Rattle.ledger.specs.Ledgers.{shelf_of as ledger_shelf};
 ghost use Rattle.month.specs.States.{state_of, setup_of, opened};
 
 use crate::month::OpenMonth;
@@ -62,7 +62,7 @@ impl MonthSetup {
         rates: History<'a, Rates>,
         ledger: Ledger<'a>,
     ) -> OpenMonth<'a, S, H>
-        ensures { state_of S.Readings.meaning H.HourRule.admits result ≡ opened (setup_of self (H.HourRule.admits peak_period)) (S.Readings.meaning store) (record { customers = history-shelf customers.entry; transmitters = history-shelf transmitters.entry; service = history-shelf service.entry; rates = history-shelf rates.entry }) (ledger-shelf ledger.entry) }
+        ensures { state_of S.Readings.meaning H.HourRule.admits result ≡ opened (setup_of self (H.HourRule.admits peak_period)) (S.Readings.meaning store) (record { customers = history_shelf customers.entry; transmitters = history_shelf transmitters.entry; service = history_shelf service.entry; rates = history_shelf rates.entry }) (ledger_shelf ledger.entry) }
     {
         OpenMonth::begin(
             self,

@@ -1,5 +1,7 @@
 // Rehearses many months: each is settled by the library and by a second calculation that shares no code with it, and every
 // outcome, listing, credit and total is compared.
+#![tactic(auto)]
+
 mod comparing;
 mod driving;
 mod generator;

@@ -1,4 +1,6 @@
 // Settles a month by a job: takes each line as one call of the month, and prints one answer for each.
+#![tactic(auto)]
+
 mod answers;
 mod closed;
 mod input;

@@ -1,5 +1,7 @@
 // The vocabulary of the tariff: readings and sheets, charges, delivery points, parties, statements, refusals.
 // Everything here is a plain value; nothing knows of files, stores or months.
+#![tactic(auto)]
+
 pub mod charge;
 pub mod parties;
 pub mod points;
