@@ -19,7 +19,7 @@ fn bit_if(picked: bool, k: u32) -> u32
 
 // A mask that marks just the days from 1 to `days` which are picked; at most 32 days are looked at, each once.
 pub fn mask_of<D: DayRule>(rule: &D, days: u32) -> u32
-    ensures { MarksJust (min days 32) (picks rule.now) result }
+    ensures { MarksJust (min days 32) (D.picks rule.now) result }
 {
     let count = days.min(32);
     let mut mask = 0;

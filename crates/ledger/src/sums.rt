@@ -49,7 +49,7 @@ impl Selects for CreditTo {
 }
 
 fn cents_if<S: Selects>(line: &Line, which: &S) -> i64
-    ensures { result ≡ (if chosen which.now line.now then line.now.cents else pos 0) }
+    ensures { result ≡ (if S.chosen which.now line.now then line.now.cents else pos 0) }
 {
     if which.selects(line) { line.cents } else { 0 }
 }
@@ -58,7 +58,7 @@ fn cents_if<S: Selects>(line: &Line, which: &S) -> i64
 pub(crate) fn sum_cents<S: Selects>(lines: &[Line], which: &S) -> i64
     requires sound { every sound_line lines.now ≡ true }
     requires short { length lines.now ≤ 100000 }
-    ensures value { result ≡ cents_of (chosen which.now) lines.now }
+    ensures value { result ≡ cents_of (S.chosen which.now) lines.now }
     ensures bound { (result ≤ℤ pos 999999990000000) × (negsuc 999999989999999 ≤ℤ result) }
 {
     let mut sum: i64 = 0;

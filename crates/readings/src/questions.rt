@@ -10,7 +10,7 @@ use tariff::refusal::Refusal;
 
 // The first of the days 1 to `days` on which a point has no sheet.
 fn first_missing_day<R: Readings>(readings: &R, point: u32, days: u32) -> Option<Refusal>
-    ensures { result ≡ first_of (no_sheet (meaning readings.now).sheets point) days }
+    ensures { result ≡ first_of (no_sheet (R.meaning readings.now).sheets point) days }
 {
     for k in 0..days {
         if !readings.has_sheet(point, k + 1) {
@@ -22,8 +22,8 @@ fn first_missing_day<R: Readings>(readings: &R, point: u32, days: u32) -> Option
 
 // The first of the points 1 to `points`, and its first day, without a sheet.
 pub fn first_missing<R: Readings>(readings: &R, points: u32, days: u32) -> Option<Refusal>
-    ensures value { result ≡ first_missing (meaning readings.now).sheets points days }
-    ensures first { FirstMissing (meaning readings.now).sheets points days result }
+    ensures value { result ≡ first_missing (R.meaning readings.now).sheets points days }
+    ensures first { FirstMissing (R.meaning readings.now).sheets points days result }
 {
     for k in 0..points {
         if let Some(refusal) = first_missing_day(readings, k + 1, days) {
@@ -35,7 +35,7 @@ pub fn first_missing<R: Readings>(readings: &R, points: u32, days: u32) -> Optio
 
 // The demand of a point in an hour: nothing where there is no reading.
 pub fn demand_at<R: Readings>(readings: &R, point: u32, day: u32, hour: u32) -> u32
-    ensures value { result ≡ demand_at (meaning readings.now).sheets point day hour }
+    ensures value { result ≡ demand_at (R.meaning readings.now).sheets point day hour }
     ensures small { result ≤ 99999999 }
 {
     match readings.reading(point, day, hour) {
@@ -52,7 +52,7 @@ fn added_demand<R: Readings>(
     day: u32,
     hour: u32,
 ) -> u32
-    ensures { result ≡ network_demand_of (kinds_of points.now) (meaning readings.now).sheets day hour point }
+    ensures { result ≡ network_demand_of (kinds_of points.now) (R.meaning readings.now).sheets day hour point }
 {
     match points.kind(point) {
         Some(kind) if kind.is_network() => demand_at(readings, point, day, hour),
@@ -62,7 +62,7 @@ fn added_demand<R: Readings>(
 
 // The demand of all network points together. The reading of each is asked for once.
 pub fn network_demand_at<R: Readings>(readings: &R, points: &PointList, day: u32, hour: u32) -> u64
-    ensures { result ≡ network_demand (kinds_of points.now) (meaning readings.now).sheets day hour (length (kinds_of points.now)) }
+    ensures { result ≡ network_demand (kinds_of points.now) (R.meaning readings.now).sheets day hour (length (kinds_of points.now)) }
 {
     let count = points.count();
     let mut total = 0;

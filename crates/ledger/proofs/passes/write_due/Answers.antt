@@ -5,17 +5,17 @@ use Rattle.ledger.proofs.Passing.{left_none}
 use Rattle.ledger.proofs.Writing.{place_way, way_room, way_step, way_end}
 use Rattle.ledger.proofs.passes.write_due.Goals as goal
 
-pub write-at-at-requires : goal.write-at-at-requires
-write-at-at-requires c =
+pub write_at-at-requires : goal.write_at-at-requires
+write_at-at-requires c =
     let way = place_way c.args.statement c.args.memory.now c.args.used _ _ c.loop-place.memory c.loop-place.at
-    c.loop-place.place (facts_of c.args.due.now) _ c.loop-place.invariant c.line-at-line.ensures in
+    c.loop-place.place (facts_of c.args.due.now) _ c.loop-place.invariant c.line_at-line.ensures in
     way_room c.args.memory.now c.args.used _ _ _ _ _ _ way c.requires.room
 
 pub loop-place-preserved : goal.loop-place-preserved
 loop-place-preserved c =
     let way = place_way c.args.statement c.args.memory.now c.args.used _ _ c.loop-place.memory c.loop-place.at
-    c.loop-place.place (facts_of c.args.due.now) _ c.loop-place.invariant c.line-at-line.ensures in
-    way_step c.args.memory.now c.args.used _ _ _ _ _ _ way c.requires.room _ _ c.write-at-at.ensures.after c.write-at-at.ensures.value
+    c.loop-place.place (facts_of c.args.due.now) _ c.loop-place.invariant c.line_at-line.ensures in
+    way_step c.args.memory.now c.args.used _ _ _ _ _ _ way c.requires.room _ _ c.write_at-at.ensures.after c.write_at-at.ensures.value
 
 pub returns : goal.returns
 returns c =

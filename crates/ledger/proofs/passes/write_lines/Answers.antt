@@ -6,8 +6,8 @@ use Rattle.ledger.specs.Issues.{due_lines, statement_lines}
 use Rattle.ledger.proofs.Writing.{due_way, way_room, way_step, way_end}
 use Rattle.ledger.proofs.passes.write_lines.Goals as goal
 
-pub write-due-at-requires : goal.write-due-at-requires
-write-due-at-requires c =
+pub write_due-at-requires : goal.write_due-at-requires
+write_due-at-requires c =
     let way = due_way c.args.statement c.args.memory.now c.args.used _ _ c.loop-due.memory c.loop-due.at
     c.loop-due.due-index c.args.dues.now c.due-item.result c.due-item.is c.loop-due-test.true c.loop-due.invariant in
     record {
@@ -24,7 +24,7 @@ loop-due-preserved c =
     c.loop-due.due-index c.args.dues.now c.due-item.result c.due-item.is c.loop-due-test.true c.loop-due.invariant in
     way_step c.args.memory.now c.args.used _ _ _ _
     (due_lines c.args.statement (take c.args.used c.loop-due.memory) (facts_of c.due-item.result)) _
-    way c.requires.room _ _ c.write-due-at.ensures.after c.write-due-at.ensures.value
+    way c.requires.room _ _ c.write_due-at.ensures.after c.write_due-at.ensures.value
 
 pub returns : goal.returns
 returns c =

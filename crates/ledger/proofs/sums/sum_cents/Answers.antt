@@ -8,16 +8,16 @@ use Rattle.ledger.proofs.sums.sum_cents.Goals as goal
 pub loop-line-init : goal.loop-line-init
 loop-line-init g c = (omega (arith, ints), omega (arith, ints), omega (arith, ints))
 
-pub overflow-add-sum : goal.overflow-add-sum
-overflow-add-sum g c =
-    let s = share_small c.args.lines.now _ _ _ c.cents-if-sum.result c.loop-line-test.true c.requires.sound c.cents-if-sum.ensures in
+pub overflow_add-sum : goal.overflow_add-sum
+overflow_add-sum g c =
+    let s = share_small c.args.lines.now _ _ _ c.cents_if-sum.result c.loop-line-test.true c.requires.sound c.cents_if-sum.ensures in
     omega (arith, ints)
 
 pub loop-line-preserved : goal.loop-line-preserved
 loop-line-preserved g c =
-    let s = share_small c.args.lines.now _ _ _ c.cents-if-sum.result c.loop-line-test.true c.requires.sound c.cents-if-sum.ensures in
-    let m = cents_step (g.S.Selects.chosen c.args.which.now) c.args.lines.now _ _ _ c.cents-if-sum.result _
-    c.loop-line-test.true c.cents-if-sum.ensures c.loop-line.invariant.0 in
+    let s = share_small c.args.lines.now _ _ _ c.cents_if-sum.result c.loop-line-test.true c.requires.sound c.cents_if-sum.ensures in
+    let m = cents_step (g.S.Selects.chosen c.args.which.now) c.args.lines.now _ _ _ c.cents_if-sum.result _
+    c.loop-line-test.true c.cents_if-sum.ensures c.loop-line.invariant.0 in
     (omega (arith, ints), omega (arith, ints), omega (arith, ints))
 
 pub returns : goal.returns

@@ -16,7 +16,7 @@ returns-in-Some g c =
 pub loop-k-preserved : goal.loop-k-preserved
 loop-k-preserved g c =
     let f : ℕ → Option Refusal = λ p. first_of (no_sheet (g.R.Readings.meaning c.args.readings.now).sheets p) c.args.days in
-    first_none f c.loop-k.k c.loop-k.invariant (sym c.in-default.ensures)
+    first_none f c.loop-k.k c.loop-k.invariant (sym c.in_default.ensures)
 
 pub returns : goal.returns
 returns g c =

@@ -5,37 +5,37 @@ use Rattle.records.specs.Histories.{shelf}
 use Rattle.records.proofs.Entering.{within, replaced, new_here, new_last, gives_set, gives_inserted, gives_none}
 use Rattle.records.proofs.entries.put_in.Given as given
 use Rattle.records.proofs.entries.put_in.Goals as goal
-use Rattle.records.proofs.entries.put_in.Goals.{After-place-of-at, Joined-else-at-count, else-at-count-via-then-at-count+else-stands-at, else-at-count-via-else-at-count}
+use Rattle.records.proofs.entries.put_in.Goals.{After-place_of-at, Joined-else-at-count, else-at-count-via-then-at-count+else-stands_at, else-at-count-via-else-at-count}
 
 -- the place that the entry has in the list
-found : (g : given.Over) (c : After-place-of-at g) →
-    c.place-of-at.result ≡ place (take c.args.used.now c.args.entries.now) c.args.entry.subject c.args.entry.from_day
+found : (g : given.Over) (c : After-place_of-at g) →
+    c.place_of-at.result ≡ place (take c.args.used.now c.args.entries.now) c.args.entry.subject c.args.entry.from_day
 found g c =
     let z : c.args.used.now - 0 ≡ c.args.used.now = omega arith in
-    c.place-of-at.ensures ∙ ap (λ n. place (take n c.args.entries.now) c.args.entry.subject c.args.entry.from_day) z
+    c.place_of-at.ensures ∙ ap (λ n. place (take n c.args.entries.now) c.args.entry.subject c.args.entry.from_day) z
 
 -- where no entry with the subject and the day stands there, the list has the entry between others
 is_new : (g : given.Over) (c : Joined-else-at-count g) →
-    c.place-of-at.result ≡ place (take c.args.used.now c.args.entries.now) c.args.entry.subject c.args.entry.from_day →
+    c.place_of-at.result ≡ place (take c.args.used.now c.args.entries.now) c.args.entry.subject c.args.entry.from_day →
     put (take c.args.used.now c.args.entries.now) c.args.entry
-    ≡ insert (take c.args.used.now c.args.entries.now) c.place-of-at.result c.args.entry
+    ≡ insert (take c.args.used.now c.args.entries.now) c.place_of-at.result c.args.entry
 is_new g c at =
     elim c.else-at-count.branch [
-      | else-at-count-via-then-at-count+else-stands-at w ↦
-          new_here c.args.entries.now c.args.used.now c.args.entry c.place-of-at.result c.if-count-len.false at _
-          w.if-at-count.true (sym w.if-stands-at.ensures)
+      | else-at-count-via-then-at-count+else-stands_at w ↦
+          new_here c.args.entries.now c.args.used.now c.args.entry c.place_of-at.result c.if-count-len.false at _
+          w.if-at-count.true (sym w.if-stands_at.ensures)
       | else-at-count-via-else-at-count w ↦
-          new_last c.args.entries.now c.args.used.now c.args.entry c.place-of-at.result c.if-count-len.false at w.if-at-count.false
+          new_last c.args.entries.now c.args.used.now c.args.entry c.place_of-at.result c.if-count-len.false at w.if-at-count.false
     ]
 
-pub returns-then-stands-at : goal.returns-then-stands-at
-returns-then-stands-at g c =
+pub returns-then-stands_at : goal.returns-then-stands_at
+returns-then-stands_at g c =
     let m = c.args.entries.now in
     let u = c.args.used.now in
     let e = c.args.entry in
-    let p = c.place-of-at.result in
-    let at = found g (goal.at.returns-then-stands-at g c).After-place-of-at in
-    let is = replaced m u e p c.if-count-len.false at _ c.if-at-count.true (sym c.if-stands-at.ensures) in
+    let p = c.place_of-at.result in
+    let at = found g (goal.at.returns-then-stands_at g c).After-place_of-at in
+    let is = replaced m u e p c.if-count-len.false at _ c.if-at-count.true (sym c.if-stands_at.ensures) in
     let gives = gives_set m u e p c.if-count-len.false at c.if-at-count.true is in
     record { answer = gives.0; entered = gives.1 }
 
@@ -44,15 +44,15 @@ returns-then-count-len-2 g c =
     let m = c.args.entries.now in
     let u = c.args.used.now in
     let e = c.args.entry in
-    let at = found g (goal.at.returns-then-count-len-2 g c).After-place-of-at in
+    let at = found g (goal.at.returns-then-count-len-2 g c).After-place_of-at in
     let is = is_new g (goal.at.returns-then-count-len-2 g c).Joined-else-at-count at in
-    let gives = gives_none m u e c.place-of-at.result c.if-count-len.false at (omega arith) is in
+    let gives = gives_none m u e c.place_of-at.result c.if-count-len.false at (omega arith) is in
     record { answer = gives.0; entered = gives.1 }
 
-pub insert-at-requires : goal.insert-at-requires
-insert-at-requires g c = (
-  within c.args.entries.now c.args.used.now c.args.entry c.place-of-at.result c.if-count-len.false
-      (found g (goal.at.insert-at-requires g c).After-place-of-at),
+pub insert_at-requires : goal.insert_at-requires
+insert_at-requires g c = (
+  within c.args.entries.now c.args.used.now c.args.entry c.place_of-at.result c.if-count-len.false
+      (found g (goal.at.insert_at-requires g c).After-place_of-at),
   omega arith,
 )
 
@@ -61,7 +61,7 @@ returns g c =
     let m = c.args.entries.now in
     let u = c.args.used.now in
     let e = c.args.entry in
-    let at = found g (goal.at.returns g c).After-place-of-at in
+    let at = found g (goal.at.returns g c).After-place_of-at in
     let is = is_new g (goal.at.returns g c).Joined-else-at-count at in
-    let gives = gives_inserted m u e c.place-of-at.result c.if-count-len.false at (omega arith) is in
-    record { answer = gives.0; entered = ap (λ m. shelf m (u + 1)) c.insert-at.ensures ∙ gives.1 }
+    let gives = gives_inserted m u e c.place_of-at.result c.if-count-len.false at (omega arith) is in
+    record { answer = gives.0; entered = ap (λ m. shelf m (u + 1)) c.insert_at.ensures ∙ gives.1 }

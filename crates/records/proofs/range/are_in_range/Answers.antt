@@ -4,12 +4,12 @@ use Rattle.records.specs.Soundness.{all_in_range}
 use Rattle.records.proofs.Steps.{rest_at}
 use Rattle.records.proofs.range.are_in_range.Goals as goal
 
-pub returns-then-not-is-in-range : goal.returns-then-not-is-in-range
-returns-then-not-is-in-range g c =
+pub returns-then-not-is_in_range : goal.returns-then-not-is_in_range
+returns-then-not-is_in_range g c =
     let xs = c.args.entries.now in
     let i = c.loop-e.e-index in
     let all = all_in_range g.T.Ranged.ranged c.args.first c.args.last in
-    ap (λ b. b && all (drop (i + 1) xs)) c.if-not-is-in-range.ensures
+    ap (λ b. b && all (drop (i + 1) xs)) c.if-not-is_in_range.ensures
     ∙ sym (ap all (rest_at xs i c.e-item.result c.loop-e-test.true c.e-item.is))
     ∙ c.loop-e.invariant
 
@@ -18,7 +18,7 @@ loop-e-preserved g c =
     let xs = c.args.entries.now in
     let i = c.loop-e.e-index in
     let all = all_in_range g.T.Ranged.ranged c.args.first c.args.last in
-    ap (λ b. b && all (drop (i + 1) xs)) c.if-not-is-in-range.ensures
+    ap (λ b. b && all (drop (i + 1) xs)) c.if-not-is_in_range.ensures
     ∙ sym (ap all (rest_at xs i c.e-item.result c.loop-e-test.true c.e-item.is))
     ∙ c.loop-e.invariant
 

@@ -6,6 +6,6 @@ use Rattle.calendar.proofs.month.Calendar.working_days.Goals as goal
 pub returns : goal.returns
 returns c =
     let cal = c.args.self.now in
-    let m = c.working-mask.result in
-    let mask = c.working-mask.ensures in
+    let m = c.working_mask.result in
+    let mask = c.working_mask.ensures in
     (count_working cal m mask.0 mask.1, ones-le (length_in cal) m mask.0)

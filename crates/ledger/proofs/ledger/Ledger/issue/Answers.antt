@@ -13,11 +13,11 @@ returns c =
     let g : Shelf Line = shelf_of c.args.self.now in
     let s = c.args.statement in
     let dues = all_facts c.args.dues.now in
-    let n = c.in-ok-count.count in
-    let answer = c.in-ok-count.ensures in
+    let n = c.in_ok-count.count in
+    let answer = c.in_ok-count.ensures in
     let ok = ok_is (issue_answer g s dues) n answer in
-    let h : Shelf Line = record { memory = c.write-lines-self.new.memory; used = c.write-lines-self.result } in
-    let after : h ≡ issued g s dues = issued_by g s dues ok h c.write-lines-self.ensures.after c.write-lines-self.ensures.value in
+    let h : Shelf Line = record { memory = c.write_lines-self.new.memory; used = c.write_lines-self.result } in
+    let after : h ≡ issued g s dues = issued_by g s dues ok h c.write_lines-self.ensures.after c.write_lines-self.ensures.value in
     record {
       answer = answer;
       after = after;

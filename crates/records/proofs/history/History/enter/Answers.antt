@@ -6,11 +6,11 @@ use Rattle.records.proofs.history.History.enter.Goals as goal
 
 pub returns : goal.returns
 returns g c =
-    let done = c.put-in-answer.ensures in
+    let done = c.put_in-answer.ensures in
     record {
       answer = done.answer;
       entered = done.entered;
       lent = refl;
-      booked = booked (shelf_of c.args.self.now) (shelf c.put-in-answer.new.entries c.put-in-answer.new.used)
-          (dated c.args.subject c.args.from-day c.args.item) c.put-in-answer.result done.answer done.entered;
+      booked = booked (shelf_of c.args.self.now) (shelf c.put_in-answer.new.entries c.put_in-answer.new.used)
+          (dated c.args.subject c.args.from_day c.args.item) c.put_in-answer.result done.answer done.entered;
     }

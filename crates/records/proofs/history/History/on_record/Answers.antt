@@ -13,7 +13,7 @@ returns g c =
     let h = shelf_of c.args.self.now in
     let s = c.args.subject in
     let d = c.args.day in
-    let is = c.latest-of.ensures ∙ ap (λ xs. latest xs s d) c.entries.ensures in
+    let is = c.latest_of.ensures ∙ ap (λ xs. latest xs s d) c.entries.ensures in
     record {
       value = is;
       book = λ t. is ∙ latest_book (items h) s d (and_parts (leb h.used (length h.memory)) (sorted (items h)) t).1;

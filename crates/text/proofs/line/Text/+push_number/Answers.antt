@@ -12,7 +12,7 @@ returns t c =
     elim c.if-n-ge10.branch [
       | then-n-ge10 w ↦
           let step = decimal_step n (omega (arith, w.if-n-ge10.true)) (omega arith) in
-          room_more 256 (was ++ decimal (n / 10)) ((48 + n % 10) ∷ []) _ _ (ap text_of w.self-is ∙ w.push-number.ensures) c.push.ensures
+          room_more 256 (was ++ decimal (n / 10)) ((48 + n % 10) ∷ []) _ _ (ap text_of w.self-is ∙ w.push_number.ensures) c.push.ensures
           ∙ ap (take 256) (append_assoc was (decimal (n / 10)) _ ∙ ap (λ l. was ++ l) (sym step))
       | else-n-ge10 w ↦
           let low : n < 10 = omega (arith, w.if-n-ge10.false) in
