@@ -6,4 +6,4 @@ use Rattle.job.proofs.Masking.{marks_mask}
 use Rattle.job.proofs.days.days_of.Goals as goal
 
 pub returns : goal.returns
-returns c = marks_mask c.day-mask.result (ranges_of (parts 44 c.args.text.now)) c.day-mask.ensures ∙ sym (cond-false _ _ _ (sym c.if-is-empty.ensures))
+returns c = marks_mask c.day_mask.result (ranges_of (parts 44 c.args.text.now)) c.day_mask.ensures ∙ sym (cond-false _ _ _ (sym c.if-is_empty.ensures))

@@ -7,10 +7,10 @@ use Rattle.text.proofs.Numbers.{digits_end, digits_more}
 use Rattle.job.proofs.Capping.{read_capped}
 use Rattle.job.proofs.numbers.whole.Goals as goal
 
-pub returns-then-not-is-ascii-digit : goal.returns-then-not-is-ascii-digit
-returns-then-not-is-ascii-digit c =
+pub returns-then-not-is_ascii_digit : goal.returns-then-not-is_ascii_digit
+returns-then-not-is_ascii_digit c =
     let xs = c.args.text.now in
-    sym (cond-false _ _ _ (and_right (ltb 0 (length xs)) (all_ascii_digits xs) (digits_end xs _ c.loop-b-test.true c.loop-b.invariant.0 c.if-not-is-ascii-digit.ensures.value)))
+    sym (cond-false _ _ _ (and_right (ltb 0 (length xs)) (all_ascii_digits xs) (digits_end xs _ c.loop-b-test.true c.loop-b.invariant.0 c.if-not-is_ascii_digit.ensures.value)))
 
 pub loop-b-preserved : goal.loop-b-preserved
 loop-b-preserved c =
@@ -19,7 +19,7 @@ loop-b-preserved c =
     let n = c.loop-b.n in
     let rest = drop (i + 1) xs in
     let digit : 10 * n + c.from.result ≡ 10 * n + (get_or xs i 0 - 48) = ap (λ d. 10 * n + d) c.from.ensures in (
-      digits_more xs _ c.loop-b-test.true c.loop-b.invariant.0 c.if-not-is-ascii-digit.ensures.value,
+      digits_more xs _ c.loop-b-test.true c.loop-b.invariant.0 c.if-not-is_ascii_digit.ensures.value,
       ap (λ m. min (read_on m rest) 4294967295) c.min-n.ensures
           ∙ read_capped 4294967295 (10 * n + c.from.result) rest
           ∙ ap (λ m. min (read_on m rest) 4294967295) digit
@@ -36,5 +36,5 @@ returns c =
     let all : all_ascii_digits xs ≡ true = sym c.loop-b.invariant.0 ∙ at_drop_all all_ascii_digits xs i (omega arith) in
     let read : n ≡ min (read_on 0 xs) 4294967295 =
     omega (arith, ap (λ m. min m 4294967295) (at_drop_all (read_on n) xs i (omega arith)), c.loop-b.invariant.1) in
-    let some : 0 < length xs = omega (arith, eqb-false (length xs) 0 (sym c.if-is-empty.ensures)) in
+    let some : 0 < length xs = omega (arith, eqb-false (length xs) 0 (sym c.if-is_empty.ensures)) in
     ap Some read ∙ sym (cond-true _ _ _ (and_from _ _ (lt-ltb 0 (length xs) some) all))

@@ -10,15 +10,15 @@ use Rattle.sheet_file.proofs.Hours.{ahead, reading_more, reading_none}
 use Rattle.sheet_file.proofs.Replies.{some_from_okOr, none_from_okOr}
 use Rattle.sheet_file.proofs.line.readings_of.Goals as goal
 
-pub returns-in-err-readings : goal.returns-in-err-readings
-returns-in-err-readings c =
-    let p = err_from_is_err_and c.from-residual.result c.from-residual.ensures.1 in
+pub returns-in_err-readings : goal.returns-in_err-readings
+returns-in_err-readings c =
+    let p = err_from_is_err_and c.from_residual.result c.from_residual.ensures.1 in
     let vs = values c.args.hours.now in
     let rest = c.loop-i.rest.now in
     let i = c.loop-i.i in
     let xs = take i c.loop-i.readings in
     let at : values rest ≡ drop i vs = c.loop-i.invariant.1 (omega arith) in
-    let none = none_from_okOr (reading_of c.cut.result.0.now) _ _ c.in-err-readings.ensures in
+    let none = none_from_okOr (reading_of c.cut.result.0.now) _ _ c.in_err-readings.ensures in
     let stop : readings_from 3 vs ≡ Err (i + 3) =
     c.loop-i.invariant.0
     ∙ ap (λ l. ahead xs (readings_from (i + 3) l)) (here 124 c.args.hours.now rest i at)
@@ -30,10 +30,10 @@ loop-i-preserved c =
     let vs = values c.args.hours.now in
     let rest = c.loop-i.rest.now in
     let i = c.loop-i.i in
-    let x = c.in-ok-readings.field-0 in
+    let x = c.in_ok-readings.field-0 in
     let xs = take i c.loop-i.readings in
     let at : values rest ≡ drop i vs = c.loop-i.invariant.1 (omega arith) in
-    let some : reading_of (before 124 rest) ≡ Some x = ap reading_of (sym c.cut.ensures.front) ∙ some_from_okOr _ _ x c.in-ok-readings.ensures in
+    let some : reading_of (before 124 rest) ≡ Some x = ap reading_of (sym c.cut.ensures.front) ∙ some_from_okOr _ _ x c.in_ok-readings.ensures in
     let more : take (i + 1) (set c.loop-i.readings i x) ≡ xs ++ x ∷ [] = take_more_set c.loop-i.readings i x (omega arith) in
     let place : i + 3 + 1 ≡ i + 1 + 3 = omega arith in (
       c.loop-i.invariant.0

@@ -17,5 +17,5 @@ returns-in-73 c =
     let first : get_or xs 0 0 ≡ 73 = omega arith in
     first_rest xs 0 some ∙ ap (λ b. b ∷ take (length xs - 1) (drop 1 xs)) first
 
-pub returns-in-default : goal.returns-in-default
-returns-in-default c = (refl, λ e. grind (arith, get_or_past c.args.text.now 0 0), λ e. grind (arith, get_or_past c.args.text.now 0 0))
+pub returns-in_default : goal.returns-in_default
+returns-in_default c = (refl, λ e. grind (arith, get_or_past c.args.text.now 0 0), λ e. grind (arith, get_or_past c.args.text.now 0 0))

@@ -12,9 +12,9 @@ loop-i-init c =
     let d = c.from-2.result in
     let point = decimal c.args.sheet.now.point in
     let day = decimal c.args.sheet.now.day in
-    let one = room_more 256 [] (decimal p) _ _ c.new-text.ensures c.push-number.ensures in
+    let one = room_more 256 [] (decimal p) _ _ c.new-text.ensures c.push_number.ensures in
     let two = room_more 256 (decimal p) (124 ∷ []) _ _ one c.push.ensures in
-    room_more 256 (decimal p ++ 124 ∷ []) (decimal d) _ _ two c.push-number-2.ensures
+    room_more 256 (decimal p ++ 124 ∷ []) (decimal d) _ _ two c.push_number-2.ensures
     ∙ ap (λ n. take 256 ((decimal n ++ 124 ∷ []) ++ decimal d)) c.from.ensures
     ∙ ap (λ n. take 256 ((point ++ 124 ∷ []) ++ decimal n)) c.from-2.ensures
     ∙ ap (take 256) (append_assoc point (124 ∷ []) day ∙ sym (append-nil (point ++ 124 ∷ day)))
@@ -25,7 +25,7 @@ loop-i-preserved c =
     let i = c.loop-i.i in
     let x = get_or rs i (Withdrawal 0) in
     let head = decimal c.args.sheet.now.point ++ 124 ∷ decimal c.args.sheet.now.day in
-    room_more 256 (head ++ hours_text (take i rs)) (124 ∷ reading_text x) _ _ c.loop-i.invariant c.push-reading.ensures
+    room_more 256 (head ++ hours_text (take i rs)) (124 ∷ reading_text x) _ _ c.loop-i.invariant c.push_reading.ensures
     ∙ ap (take 256) (hours_more head rs i (Withdrawal 0) (omega arith))
 
 pub returns : goal.returns

@@ -11,6 +11,6 @@ returns c =
     record {
       span = c.days-days.ensures.0;
       admits =
-          marks_admit (serves_on (shelf_of c.args.history.now) c.args.point) (length_in cal) c.days-days.result (first_in cal) c.mask-of.result (omega arith) c.days-days.ensures.0
-          c.mask-of.ensures;
+          marks_admit (serves_on (shelf_of c.args.history.now) c.args.point) (length_in cal) c.days-days.result (first_in cal) c.mask_of.result (omega arith) c.days-days.ensures.0
+          c.mask_of.ensures;
     }

@@ -6,22 +6,22 @@ use Rattle.text.proofs.Parts.{after_shorter}
 use Rattle.job.specs.Lines.{numbered}
 use Rattle.job.proofs.lines.JobLines.next_line.Goals as goal
 
-pub returns-then-is-empty : goal.returns-then-is-empty
-returns-then-is-empty c =
-    let none = nil_from_length c.args.self.now.rest.now (omega (arith, true-eqb (length c.args.self.now.rest.now) 0 c.if-is-empty.ensures)) in
+pub returns-then-is_empty : goal.returns-then-is_empty
+returns-then-is_empty c =
+    let none = nil_from_length c.args.self.now.rest.now (omega (arith, true-eqb (length c.args.self.now.rest.now) 0 c.if-is_empty.ensures)) in
     let e = ap (λ l. numbered c.args.self.now.number (lines l)) none in
     (e, e)
 
-pub invariant-of-self : goal.invariant-of-self
-invariant-of-self c =
+pub invariant_of-self : goal.invariant_of-self
+invariant_of-self c =
     let rest = c.args.self.now.rest.now in
-    let some : 0 < length rest = omega (arith, false-eqb (length rest) 0 c.if-is-empty.ensures) in
-    (omega (arith, ap length c.cut.ensures.back, after_shorter 10 rest some), tt)
+    let some : 0 < length rest = omega (arith, false-eqb (length rest) 0 c.if-is_empty.ensures) in
+    record { countable = omega (arith, ap length c.cut.ensures.back, after_shorter 10 rest some) }
 
 pub returns : goal.returns
 returns c =
     let rest = c.args.self.now.rest.now in
     let n = c.args.self.now.number in
-    let some : 0 < length rest = omega (arith, false-eqb (length rest) 0 c.if-is-empty.ensures) in
+    let some : 0 < length rest = omega (arith, false-eqb (length rest) 0 c.if-is_empty.ensures) in
     ap (numbered n) (lines_first rest some)
     ∙ (λ i. (n + 1, sym c.cut.ensures.front i) ∷ numbered (n + 1) (lines (sym c.cut.ensures.back i)))

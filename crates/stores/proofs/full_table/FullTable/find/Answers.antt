@@ -5,8 +5,8 @@ use Rattle.stores.specs.TableLaws.{offset_within}
 use Rattle.stores.proofs.Places.{offset_small}
 use Rattle.stores.proofs.full_table.FullTable.find.Goals as goal
 
-pub overflow-mul-result-2 : goal.overflow-mul-result-2
-overflow-mul-result-2 c =
+pub overflow_mul-result-2 : goal.overflow_mul-result-2
+overflow_mul-result-2 c =
     let s = c.args.self.now in
     omega (arith, offset_small s.points s.days c.args.point c.args.day s.limit s.month (omega arith) (omega arith) (omega arith) (omega arith))
 

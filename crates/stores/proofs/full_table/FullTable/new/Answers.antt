@@ -5,7 +5,7 @@ use Rattle.stores.proofs.full_table.FullTable.new.Goals as goal
 
 pub returns : goal.returns
 returns c =
-    let passed = ap is_ok (sym c.check.ensures) ∙ c.if-is-err.ensures.negation in
+    let passed = ap is_ok (sym c.check.ensures) ∙ c.if-is_err.ensures.negation in
     record {
       holds = table_cleared c.args.points c.args.days (length c.args.memory.now) c.clear.new.words passed c.clear.ensures ∙ sym (cond-true _ _ _ passed);
       words = c.clear.ensures ∙ sym (cond-true _ _ _ passed);

@@ -3,47 +3,35 @@ use Rattle.stores.specs.Rows.{row_of}
 use Rattle.stores.proofs.RowPosts.{row_small, row_room, length_stored, rows_stay, rows_after}
 use Rattle.stores.proofs.row_store.store.RowStoreSheetStore.post.Goals as goal
 
-pub offset-bounds-self-i : goal.offset-bounds-self-i
-offset-bounds-self-i c =
+pub offset_bounds-self-i : goal.offset_bounds-self-i
+offset_bounds-self-i c =
     let s = c.args.self.now in
-    omega (arith, row_small s.points s.days s.used s.rows.now c.args.sheet c.find-i.result s.filled s.fits s.ok (omega arith) c.in-ok-check-sheet.ensures c.find-i.ensures s.limit s.month)
+    omega (arith, row_small s.points s.days s.used s.rows.now c.args.sheet c.find-i.result s.filled s.fits s.ok (omega arith) c.in_ok-check_sheet.ensures c.find-i.ensures s.limit s.month)
 
 pub bounds-self-i : goal.bounds-self-i
 bounds-self-i c =
     let s = c.args.self.now in
-    row_room s.points s.days s.used s.rows.now c.args.sheet c.find-i.result s.filled s.fits s.ok (omega arith) c.in-ok-check-sheet.ensures c.find-i.ensures
+    row_room s.points s.days s.used s.rows.now c.args.sheet c.find-i.result s.filled s.fits s.ok (omega arith) c.in_ok-check_sheet.ensures c.find-i.ensures
 
-pub overflow-add-i : goal.overflow-add-i
-overflow-add-i c =
+pub overflow_add-i : goal.overflow_add-i
+overflow_add-i c =
     let s = c.args.self.now in
-    omega (arith, row_small s.points s.days s.used s.rows.now c.args.sheet c.find-i.result s.filled s.fits s.ok (omega arith) c.in-ok-check-sheet.ensures c.find-i.ensures s.limit s.month)
+    omega (arith, row_small s.points s.days s.used s.rows.now c.args.sheet c.find-i.result s.filled s.fits s.ok (omega arith) c.in_ok-check_sheet.ensures c.find-i.ensures s.limit s.month)
 
-pub invariant-of-self : goal.invariant-of-self
-invariant-of-self c =
+pub invariant_of-self : goal.invariant_of-self
+invariant_of-self c =
     let s = c.args.self.now in
     let rows = set s.rows.now c.find-i.result (row_of c.args.sheet) in
-    let same = length_stored s.points s.days s.used s.rows.now c.args.sheet c.find-i.result s.filled s.fits s.ok (omega arith) c.in-ok-check-sheet.ensures c.find-i.ensures rows refl in
-    let room = row_room s.points s.days s.used s.rows.now c.args.sheet c.find-i.result s.filled s.fits s.ok (omega arith) c.in-ok-check-sheet.ensures c.find-i.ensures in (
-      s.limit,
-      (
-        s.month,
-        (
-          omega (arith, same, s.fits),
-          (
-            omega (arith, same, room, s.filled, c.max-self.ensures),
-            (rows_stay s.points s.days s.used s.rows.now c.args.sheet c.find-i.result s.filled s.fits s.ok (omega arith) c.in-ok-check-sheet.ensures c.find-i.ensures c.max-self.result rows c.max-self.ensures refl, tt),
-          ),
-        ),
-      ),
-    )
+    let same = length_stored s.points s.days s.used s.rows.now c.args.sheet c.find-i.result s.filled s.fits s.ok (omega arith) c.in_ok-check_sheet.ensures c.find-i.ensures rows refl in
+    let room = row_room s.points s.days s.used s.rows.now c.args.sheet c.find-i.result s.filled s.fits s.ok (omega arith) c.in_ok-check_sheet.ensures c.find-i.ensures in record { limit = s.limit; month = s.month; fits = omega (arith, same, s.fits); filled = omega (arith, same, room, s.filled, c.max-self.ensures); ok = rows_stay s.points s.days s.used s.rows.now c.args.sheet c.find-i.result s.filled s.fits s.ok (omega arith) c.in_ok-check_sheet.ensures c.find-i.ensures c.max-self.result rows c.max-self.ensures refl }
 
 pub returns : goal.returns
 returns c =
     let s = c.args.self.now in
     let rows = set s.rows.now c.find-i.result (row_of c.args.sheet) in
     record {
-      result = c.in-ok-check-sheet.ensures;
-      after = rows_after s.points s.days s.used s.rows.now c.args.sheet c.find-i.result s.filled s.fits s.ok (omega arith) c.in-ok-check-sheet.ensures c.find-i.ensures c.max-self.result rows c.max-self.ensures refl;
+      result = c.in_ok-check_sheet.ensures;
+      after = rows_after s.points s.days s.used s.rows.now c.args.sheet c.find-i.result s.filled s.fits s.ok (omega arith) c.in_ok-check_sheet.ensures c.find-i.ensures c.max-self.result rows c.max-self.ensures refl;
       rows = ap (λ i. set s.rows.now i (row_of c.args.sheet)) c.find-i.ensures;
       lender = refl;
     }
