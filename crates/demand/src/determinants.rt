@@ -22,8 +22,8 @@ pub fn system_peak<'a, R: Readings>(
     calendar: &Calendar,
     readings: &'a R,
 ) -> (u64, u32, u32)
-    ensures value { result ≡ system_peak_of (kinds_of points.now) (length_in calendar.now) (meaning readings.now).sheets }
-    ensures is_peak { IsPeak (in_month (length_in calendar.now)) (λ d h. network_demand (kinds_of points.now) (meaning readings.now).sheets d h (length (kinds_of points.now))) (length_in calendar.now) result }
+    ensures value { result ≡ system_peak_of (kinds_of points.now) (length_in calendar.now) (R.meaning readings.now).sheets }
+    ensures is_peak { IsPeak (in_month (length_in calendar.now)) (λ d h. network_demand (kinds_of points.now) (R.meaning readings.now).sheets d h (length (kinds_of points.now))) (length_in calendar.now) result }
 {
     peak(
         &SystemDemand { readings, points },
@@ -39,7 +39,7 @@ fn own_peak<R: Readings, H: HourRule>(
     rule: &H,
     days: u32,
 ) -> (u64, u32, u32)
-    ensures value { result ≡ peak_over (admits rule.now) (demand_at (meaning readings.now).sheets point) days }
+    ensures value { result ≡ peak_over (H.admits rule.now) (demand_at (R.meaning readings.now).sheets point) days }
     ensures small { result.0 ≤ 99999999 }
 {
     peak(&PointDemand { readings, point }, rule, days)
@@ -64,9 +64,9 @@ pub fn network_demand<R: Readings, H: HourRule>(
     system: (u64, u32, u32),
     point: u32,
 ) -> NetworkDemand
-    ensures coincident { result.coincident ≡ demand_at (meaning readings.now).sheets point system.1 system.2 }
-    ensures own { result.own ≡ peak_over (admits peak_period.now) (demand_at (meaning readings.now).sheets point) days }
-    ensures determinant { result.determinant ≡ network_determinant (meaning readings.now).sheets (admits peak_period.now) days system point }
+    ensures coincident { result.coincident ≡ demand_at (R.meaning readings.now).sheets point system.1 system.2 }
+    ensures own { result.own ≡ peak_over (H.admits peak_period.now) (demand_at (R.meaning readings.now).sheets point) days }
+    ensures determinant { result.determinant ≡ network_determinant (R.meaning readings.now).sheets (H.admits peak_period.now) days system point }
     ensures small { result.determinant.0 ≤ 9999999900 }
 {
     let coincident = u64::from(demand_at(readings, point, system.1, system.2));
@@ -104,7 +104,7 @@ pub fn connection_demand<R: Readings, H: HourRule>(
     days: u32,
     point: u32,
 ) -> (u64, u32, u32)
-    ensures value { result ≡ connection_determinant (meaning readings.now).sheets (admits service.now) days point }
+    ensures value { result ≡ connection_determinant (R.meaning readings.now).sheets (H.admits service.now) days point }
     ensures small { result.0 ≤ 9999999900 }
 {
     let own = own_peak(readings, point, service, days);

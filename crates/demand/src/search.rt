@@ -21,7 +21,7 @@ fn with_hour<Q: HourlyQuantity, H: HourRule>(
     hour: u32,
     best: (u64, u32, u32),
 ) -> (u64, u32, u32)
-    ensures { result ≡ taken (admits rule.now day hour) (quantity quantities.now day hour) day hour best }
+    ensures { result ≡ taken (H.admits rule.now day hour) (Q.quantity quantities.now day hour) day hour best }
 {
     if !rule.admits_hour(day, hour) {
         return best;
@@ -41,7 +41,7 @@ fn peak_of_day<Q: HourlyQuantity, H: HourRule>(
     day: u32,
     before: (u64, u32, u32),
 ) -> (u64, u32, u32)
-    ensures { result ≡ best_of_day (admits rule.now) (quantity quantities.now) before day 24 }
+    ensures { result ≡ best_of_day (H.admits rule.now) (Q.quantity quantities.now) before day 24 }
 {
     let mut best = before;
     for hour in 1..=24 {
@@ -53,12 +53,12 @@ fn peak_of_day<Q: HourlyQuantity, H: HourRule>(
 // The greatest quantity over the admitted hours of days 1 to `days`, with its day and its hour; among equals the latest;
 // over no hours 0, day 0, hour 0.
 pub fn peak<Q: HourlyQuantity, H: HourRule>(quantities: &Q, rule: &H, days: u32) -> (u64, u32, u32)
-    ensures value { result ≡ peak_over (admits rule.now) (quantity quantities.now) days }
-    ensures is_peak { IsPeak (admits rule.now) (quantity quantities.now) days result }
-    ensures no_other { (s : Triple) → IsPeak (admits rule.now) (quantity quantities.now) days s → s ≡ result }
-    ensures bounded { (b : ℕ) → ((d h : ℕ) → Inside days d h → quantity quantities.now d h ≤ b) → result.0 ≤ b }
-    ensures whole { span rule.now ≤ days → (d h : ℕ) → admits rule.now d h ≡ true → quantity quantities.now d h ≤ result.0 }
-    ensures by_answers { (B : ℕ → ℕ → Bool) (p : ℕ → ℕ → ℕ) → Alike days (admits rule.now) (quantity quantities.now) B p → result ≡ peak_over B p days }
+    ensures value { result ≡ peak_over (H.admits rule.now) (Q.quantity quantities.now) days }
+    ensures is_peak { IsPeak (H.admits rule.now) (Q.quantity quantities.now) days result }
+    ensures no_other { (s : Triple) → IsPeak (H.admits rule.now) (Q.quantity quantities.now) days s → s ≡ result }
+    ensures bounded { (b : ℕ) → ((d h : ℕ) → Inside days d h → Q.quantity quantities.now d h ≤ b) → result.0 ≤ b }
+    ensures whole { H.span rule.now ≤ days → (d h : ℕ) → H.admits rule.now d h ≡ true → Q.quantity quantities.now d h ≤ result.0 }
+    ensures by_answers { (B : ℕ → ℕ → Bool) (p : ℕ → ℕ → ℕ) → Alike days (H.admits rule.now) (Q.quantity quantities.now) B p → result ≡ peak_over B p days }
 {
     let mut best = (0, 0, 0);
     for before in 0..days {

@@ -12,7 +12,7 @@ returns g c =
     let sheets = (g.R.Readings.meaning c.args.readings.now).sheets in
     record {
       value = search rules;
-      is-peak =
+      is_peak =
           subst (λ days. IsPeak (in_month (length_in c.args.calendar.now)) (λ d h. network_demand kinds sheets d h (length kinds)) days c.peak.result) c.days.ensures.0
-          c.peak.ensures.is-peak;
+          c.peak.ensures.is_peak;
     }

@@ -24,11 +24,11 @@ returns g c =
     let peak : IsPeak admits quantity days best = subst (IsPeak admits quantity days) (sym found) (peak_is admits quantity days) in
     record {
       value = found;
-      is-peak = peak;
+      is_peak = peak;
       no_other = λ s other. peak_unique admits quantity days s best other peak;
       bounded = peak_bounded admits quantity days best peak;
       whole = λ long d h on.
           let inside = rule.within c.args.rule.now d h on in
           peak_greatest admits quantity days best peak d h ((inside.0.0, le_trans inside.0.1 long), inside.1) on;
-      by-answers = λ B p alike. found ∙ peak_alike admits B quantity p days alike;
+      by_answers = λ B p alike. found ∙ peak_alike admits B quantity p days alike;
     }

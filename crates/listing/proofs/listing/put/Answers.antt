@@ -6,8 +6,8 @@ pub returns : goal.returns
 returns c =
     let out = c.args.out.now in
     let at = c.args.at in
-    let part = c.copy-from-slice.new.self in
-    let is = c.copy-from-slice.ensures.after ∙ c.as-bytes.ensures in
+    let part = c.copy_from_slice.new.self in
+    let is = c.copy_from_slice.ensures.after ∙ c.as_bytes.ensures in
     let long = ap length is in
     record {
       place = ap (λ n. at + n) c.len.ensures.0;

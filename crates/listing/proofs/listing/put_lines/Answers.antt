@@ -16,8 +16,8 @@ loop-line-preserved c =
     let i = c.loop-line.line-index in
     let here = lengths_at ls i _ _ c.line_text.ensures c.loop-line-test.true in (
       omega arith,
-      front_more ls i _ _ c.line_text.ensures c.loop-line-test.true _ _ _ c.loop-line.invariant.1 c.put_at.ensures.front,
-      back_more c.args.out.now c.loop-line.out c.put_at.new.out c.loop-line.at _ c.put_at.result c.put_at.ensures.place c.loop-line.invariant.2 c.put_at.ensures.back,
+      front_more ls i _ _ c.line_text.ensures c.loop-line-test.true _ _ _ c.loop-line.invariant.1 c.put-at.ensures.front,
+      back_more c.args.out.now c.loop-line.out c.put-at.new.out c.loop-line.at _ c.put-at.result c.put-at.ensures.place c.loop-line.invariant.2 c.put-at.ensures.back,
     )
 
 pub returns : goal.returns

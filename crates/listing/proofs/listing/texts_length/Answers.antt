@@ -5,8 +5,8 @@ use Rattle.listing.specs.Rows.{line_text}
 use Rattle.listing.proofs.Passing.{lengths_at}
 use Rattle.listing.proofs.listing.texts_length.Goals as goal
 
-pub overflow-add-sum : goal.overflow-add-sum
-overflow-add-sum c = record { fits = omega arith }
+pub overflow_add-sum : goal.overflow_add-sum
+overflow_add-sum c = record { fits = omega arith }
 
 pub loop-line-preserved : goal.loop-line-preserved
 loop-line-preserved c =

@@ -7,9 +7,9 @@ use Rattle.listing.proofs.listing.write_listing.Goals as goal
 pub returns : goal.returns
 returns c =
     let w =
-    wrote (shelf_of c.args.ledger.now) c.lines-lines.result.now (text_of c.header-text-header.result)
-    c.args.out.now c.put-start.new.out c.put-lines.new.out c.put-start.result c.put-lines.result
-    c.in-ok-check.ensures c.lines-lines.ensures c.header-text-header.ensures
+    wrote (shelf_of c.args.ledger.now) c.lines-lines.result.now (text_of c.header_text-header.result)
+    c.args.out.now c.put-start.new.out c.put_lines.new.out c.put-start.result c.put_lines.result
+    c.in_ok-check.ensures c.lines-lines.ensures c.header_text-header.ensures
     c.put-start.ensures.place c.put-start.ensures.front c.put-start.ensures.back
-    c.put-lines.ensures.place c.put-lines.ensures.front c.put-lines.ensures.back (omega arith) in
+    c.put_lines.ensures.place c.put_lines.ensures.front c.put_lines.ensures.back (omega arith) in
     record { value = w.value; memory = w.memory; listed = w.listed }

@@ -7,4 +7,4 @@ pub returns : goal.returns
 returns c =
     let was = text_of c.args.text.now in
     let digits = decimal c.args.n in
-    room_more 256 (was ++ 124 ∷ []) digits _ _ c.push.ensures c.push-number.ensures ∙ ap (take 256) (append_assoc was (124 ∷ []) digits)
+    room_more 256 (was ++ 124 ∷ []) digits _ _ c.push.ensures c.push_number.ensures ∙ ap (take 256) (append_assoc was (124 ∷ []) digits)

@@ -16,4 +16,4 @@ returns-in-Some c =
     sym (first_found (lacks (records_of c.args.self.now) c.args.day) c.loop-k.k c.args.points _ (omega arith) c.loop-k.invariant (sym c.in-Some.ensures))
 
 pub loop-k-preserved : goal.loop-k-preserved
-loop-k-preserved c = first_none (lacks (records_of c.args.self.now) c.args.day) c.loop-k.k c.loop-k.invariant (sym c.in-default.ensures)
+loop-k-preserved c = first_none (lacks (records_of c.args.self.now) c.args.day) c.loop-k.k c.loop-k.invariant (sym c.in_default.ensures)

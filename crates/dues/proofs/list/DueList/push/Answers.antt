@@ -9,10 +9,10 @@ listed c = let full = c.args.self.now.full in omega (arith, room_left c.args.sel
 pub bounds-self-at : goal.bounds-self-at
 bounds-self-at c = room_left c.args.self.now c.requires
 
-pub invariant-of-self : goal.invariant-of-self
-invariant-of-self c =
+pub invariant_of-self : goal.invariant_of-self
+invariant_of-self c =
     let l = c.args.self.now in
-    (omega (arith, room_left l c.requires), (length-set l.dues l.count c.args.due ∙ l.full, tt))
+    record { few = omega (arith, room_left l c.requires); full = length-set l.dues l.count c.args.due ∙ l.full }
 
 pub returns : goal.returns
 returns c = one_added c.args.self.now c.requires c.args.due

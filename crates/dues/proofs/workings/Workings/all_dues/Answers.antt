@@ -6,8 +6,8 @@ use Rattle.dues.specs.Workings.{facts_for}
 use Rattle.dues.proofs.Rooms.{two_at_most, dues_few, dues_more}
 use Rattle.dues.proofs.workings.Workings.all_dues.Goals as goal
 
-pub add-point-requires : goal.add-point-requires
-add-point-requires g c =
+pub add_point-requires : goal.add_point-requires
+add_point-requires g c =
     let f : Facts = facts_for g.R.Readings.meaning g.H.HourRule.admits c.args.self.now in
     let k = c.loop-k.k in
     record {
@@ -20,4 +20,4 @@ pub loop-k-preserved : goal.loop-k-preserved
 loop-k-preserved g c =
     let f : Facts = facts_for g.R.Readings.meaning g.H.HourRule.admits c.args.self.now in
     let k = c.loop-k.k in
-    c.add-point.ensures ∙ (ap (λ l. l ++ point_dues f c.args.system c.args.rates (k + 1)) c.loop-k.invariant ∙ dues_more f c.args.system c.args.rates k)
+    c.add_point.ensures ∙ (ap (λ l. l ++ point_dues f c.args.system c.args.rates (k + 1)) c.loop-k.invariant ∙ dues_more f c.args.system c.args.rates k)
