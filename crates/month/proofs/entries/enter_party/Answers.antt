@@ -7,11 +7,11 @@ use Rattle.records.specs.Soundness.{sound_within, check_answer}
 use Rattle.month.proofs.Entering.{not_sound, left_alone, entered_if, party_reached}
 use Rattle.month.proofs.entries.enter_party.Goals as goal
 
-pub returns-in-err-check : goal.returns-in-err-check
-returns-in-err-check c =
+pub returns-in_err-check : goal.returns-in_err-check
+returns-in_err-check c =
     let h = shelf_of c.args.history.now in
-    let r = c.from-residual.result in
-    let bad = c.from-residual.ensures.0 in
+    let r = c.from_residual.result in
+    let bad = c.from_residual.ensures.0 in
     let is : r ≡ check_answer party_in_range 1 400 h = search rules in
     record {
       answer = not_sound (sound_within party_in_range 1 400 h) r bad is _;
@@ -23,10 +23,10 @@ returns c =
     let h = shelf_of c.args.history.now in
     let kinds = kinds_of c.args.points.now in
     let p = c.args.point in
-    let d = c.args.from-day in
+    let d = c.args.from_day in
     let k = c.args.party in
     let high : p ≤ length kinds = omega arith in
     record {
-      answer = c.enter.ensures.answer ∙ sym (party_reached kinds h p d k _ c.in-ok-check.ensures c.if-point-lt1.false high c.if-from-day-gt-LAST-FROM-DAY.false (sym c.if-not-is-in-range.ensures));
+      answer = c.enter.ensures.answer ∙ sym (party_reached kinds h p d k _ c.in_ok-check.ensures c.if-point-lt1.false high c.if-from_day-gt-LAST_FROM_DAY.false (sym c.if-not-is_in_range.ensures));
       after = entered_if h (shelf_of c.enter.new.self) (dated p d k) c.enter.result c.enter.ensures.answer c.enter.ensures.entered;
     }

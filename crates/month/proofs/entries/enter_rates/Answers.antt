@@ -6,11 +6,11 @@ use Rattle.records.specs.Soundness.{sound_within, check_answer}
 use Rattle.month.proofs.Entering.{not_sound, left_alone, entered_if, rates_reached}
 use Rattle.month.proofs.entries.enter_rates.Goals as goal
 
-pub returns-in-err-check : goal.returns-in-err-check
-returns-in-err-check c =
+pub returns-in_err-check : goal.returns-in_err-check
+returns-in_err-check c =
     let h = shelf_of c.args.history.now in
-    let r = c.from-residual.result in
-    let bad = c.from-residual.ensures.0 in
+    let r = c.from_residual.result in
+    let bad = c.from_residual.ensures.0 in
     let is : r ≡ check_answer rates_in_range 0 0 h = search rules in
     record {
       answer = not_sound (sound_within rates_in_range 0 0 h) r bad is _;
@@ -20,8 +20,8 @@ returns-in-err-check c =
 pub returns : goal.returns
 returns c =
     let h = shelf_of c.args.history.now in
-    let e = dated 0 c.args.from-day c.args.rates in
+    let e = dated 0 c.args.from_day c.args.rates in
     record {
-      answer = c.enter.ensures.answer ∙ sym (rates_reached h c.args.from-day c.args.rates _ c.in-ok-check.ensures c.if-from-day-gt-LAST-FROM-DAY.false (sym c.if-not-is-in-range.ensures));
+      answer = c.enter.ensures.answer ∙ sym (rates_reached h c.args.from_day c.args.rates _ c.in_ok-check.ensures c.if-from_day-gt-LAST_FROM_DAY.false (sym c.if-not-is_in_range.ensures));
       after = entered_if h (shelf_of c.enter.new.self) e c.enter.result c.enter.ensures.answer c.enter.ensures.entered;
     }

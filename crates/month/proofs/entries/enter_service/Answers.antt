@@ -6,11 +6,11 @@ use Rattle.records.specs.Soundness.{sound_within, check_answer}
 use Rattle.month.proofs.Entering.{not_sound, left_alone, entered_if, service_reached}
 use Rattle.month.proofs.entries.enter_service.Goals as goal
 
-pub returns-in-err-check : goal.returns-in-err-check
-returns-in-err-check c =
+pub returns-in_err-check : goal.returns-in_err-check
+returns-in_err-check c =
     let h = shelf_of c.args.history.now in
-    let r = c.from-residual.result in
-    let bad = c.from-residual.ensures.0 in
+    let r = c.from_residual.result in
+    let bad = c.from_residual.ensures.0 in
     let is : r ≡ check_answer (λ _. true) 1 400 h = search rules in
     record {
       answer = not_sound (sound_within (λ _. true) 1 400 h) r bad is _;
@@ -22,9 +22,9 @@ returns c =
     let h = shelf_of c.args.history.now in
     let kinds = kinds_of c.args.points.now in
     let p = c.args.point in
-    let d = c.args.from-day in
+    let d = c.args.from_day in
     let x = c.args.service in
     record {
-      answer = c.enter.ensures.answer ∙ sym (service_reached kinds h p d x _ _ c.in-ok-check.ensures (sym c.in-Some.ensures) (sym c.if-is-network.ensures) c.if-from-day-gt-LAST-FROM-DAY.false);
+      answer = c.enter.ensures.answer ∙ sym (service_reached kinds h p d x _ _ c.in_ok-check.ensures (sym c.in-Some.ensures) (sym c.if-is_network.ensures) c.if-from_day-gt-LAST_FROM_DAY.false);
       after = entered_if h (shelf_of c.enter.new.self) (dated p d x) c.enter.result c.enter.ensures.answer c.enter.ensures.entered;
     }
