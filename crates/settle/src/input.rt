@@ -1,5 +1,6 @@
 // What the program reads: a job, and the sheet files that its lines name.
-use std::alloc::{AllocError, Global};
+use anyhow::anyhow;
+use std::alloc::AllocError;
 use std::fs;
 use std::fs::File;
 use std::io::Read;
@@ -24,14 +25,6 @@ fn read_standard_input(rt: &HostRuntime, job: &mut Vec<u8>) -> anyhow::Result<()
     Ok(())
 }
 
-// A fault with the name of the file that it is of.
-fn named(heap: Global, name: &str, fault: anyhow::Error) -> anyhow::Error {
-    match format!(in heap; "{name}: {fault}") {
-        Ok(text) => text.into(),
-        Err(_) => fault,
-    }
-}
-
 fn read_file(rt: &HostRuntime, name: &str, job: &mut Vec<u8>) -> anyhow::Result<()> {
     File::open(rt, name)?.read_to_end(job)?;
     Ok(())
@@ -45,7 +38,7 @@ fn add_file(rt: &HostRuntime, name: &str, job: &mut Vec<u8>) -> anyhow::Result<(
         read_file(rt, name, job)
     };
     if let Err(fault) = result {
-        return Err(named(rt.alloc(), name, fault));
+        return Err(anyhow!("{name}: {fault}"));
     }
     end_line(job)?;
     Ok(())

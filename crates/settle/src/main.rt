@@ -40,7 +40,7 @@ a job has one call on each line, values split by |; blank lines and lines that b
 
 // Works through a job from its month to its end.
 fn settle<W: Write>(rt: &HostRuntime, job: &[u8], out: &mut W) -> anyhow::Result<()> {
-    let progress = Progress::of(job);
+    let progress = Progress::of(rt, job);
     let mut lines = JobLines::new(job);
     if let Some(month) = await_month(&mut lines, out)? {
         if let Some(opening) = set_up::set_up(rt.alloc(), month, &mut lines, out)? {

@@ -1,8 +1,7 @@
 // How far a long job is, told on standard error where that is a terminal.
 use std::io;
+use std::io::IsTerminal;
 use text::cuts::count_marks;
-
-const STANDARD_ERROR: i32 = 2;
 
 // A message for every so many lines.
 const STEP: u64 = 1000;
@@ -14,9 +13,9 @@ pub(crate) struct Progress {
 }
 
 impl Progress {
-    pub(crate) fn of(job: &[u8]) -> Progress {
+    pub(crate) fn of(rt: &HostRuntime, job: &[u8]) -> Progress {
         Progress {
-            is_shown: libc::isatty(STANDARD_ERROR) == 1,
+            is_shown: rt.stderr().is_terminal(),
             lines: count_marks(job, b'\n'),
         }
     }
