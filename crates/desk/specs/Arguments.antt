@@ -7,7 +7,6 @@ use Rattle.tariff.specs.Points.{kinds_of}
 use Rattle.calendar.specs.declared.month.Calendar.{Calendar as MonthCalendar}
 use Rattle.calendar.specs.Marks.{refusal_of}
 use Rattle.text.specs.Format.{parts}
-use Rattle.job.specs.declared.point_list.PointFault.{PointFault}
 use Rattle.job.specs.Masks.{days_of}
 use Rattle.job.specs.Numbers.{whole_of}
 use Rattle.job.specs.Points.{points_from}
