@@ -1,6 +1,6 @@
 -- No two dues are for the same charge of the same point.
 use Rattle.std.proofs.Common.{◌≡◌, ℕ, zero, suc, ◌<◌, Bool, true, false, not, eqb, List, [], ◌∷◌, ◌++◌, length, Some, None, Option, refl, ap, ◌∙◌, arith}
-use Rattle.std.specs.List.{AllByRecursion as All}
+use Rattle.std.specs.List.{AllByRecursion}
 use Rattle.std.proofs.ByRecursion.{All-append}
 use Rattle.std.proofs.lemmas.Bool.{and_from, and_parts, and_left, and_right, or_from, or_parts, not-true, not_from_false, ne_eqb}
 use Rattle.tariff.specs.declared.charge.Charge.{Charge}
@@ -16,19 +16,19 @@ use Rattle.dues.specs.Dues.{peak_of, due_of, when, point_dues, dues_up_to, dues_
 use Rattle.dues.proofs.Rooms.{charge_dues, point_dues_are}
 use Rattle.dues.proofs.Among.{all_when, all_point, all_up_to}
 
-any_none : (P : DueFacts → Bool) (xs : List DueFacts) → All (λ x. P x ≡ false) xs → any P xs ≡ false
+any_none : (P : DueFacts → Bool) (xs : List DueFacts) → AllByRecursion (λ x. P x ≡ false) xs → any P xs ≡ false
 any_none P [] all = refl
 any_none P (x ∷ xs) all = or_from (P x) (any P xs) all.0 (any_none P xs all.1)
 
 -- d is for another item than each of ys
 abbrev NoneOf : List DueFacts → DueFacts → Type 0
-NoneOf ys d = All (λ y. same_item d y ≡ false) ys
+NoneOf ys d = AllByRecursion (λ y. same_item d y ≡ false) ys
 
 any_append : (P : DueFacts → Bool) (xs ys : List DueFacts) → any P xs ≡ false → any P ys ≡ false → any P (xs ++ ys) ≡ false
 any_append P [] ys a b = b
 any_append P (x ∷ xs) ys a b = let p = or_parts (P x) (any P xs) a in or_from (P x) (any P (xs ++ ys)) p.0 (any_append P xs ys p.1 b)
 
-distinct_append : (xs ys : List DueFacts) → distinct xs ≡ true → distinct ys ≡ true → All (NoneOf ys) xs → distinct (xs ++ ys) ≡ true
+distinct_append : (xs ys : List DueFacts) → distinct xs ≡ true → distinct ys ≡ true → AllByRecursion (NoneOf ys) xs → distinct (xs ++ ys) ≡ true
 distinct_append [] ys a b c = b
 distinct_append (x ∷ xs) ys a b c =
     let p = and_parts (not (any (same_item x) xs)) (distinct xs) a in

@@ -1,6 +1,6 @@
 -- Which accounts the dues cover, and by which due.
 use Rattle.std.proofs.Common.{◌≡◌, ℕ, zero, suc, ◌-◌, ◌≤◌, Bool, true, false, cond, List, [], ◌∷◌, ◌++◌, length, get_or, Some, None, sym, refl, ap, ◌∙◌, subst, ap₂, ⊎_elim, arith}
-use Rattle.std.specs.List.{ContainsAt as Has, AllByRecursion as All}
+use Rattle.std.specs.List.{ContainsAt as Has, AllByRecursion}
 use Rattle.std.proofs.ByRecursion.{has_append_left, has_append_right}
 use Rattle.std.proofs.lemmas.Bool.{and_parts, and_from, cases_lt, eqb-true, or_cases, false≢true}
 use Rattle.std.proofs.lemmas.Bool.Decides.{Decides-by_or, same_from_decides}
@@ -40,7 +40,7 @@ any_has P xs x has e =
     let (k, lt, at) = has in
     (Decides-by_or P (λ y. P y ≡ true) (any P) (λ y. (λ h. h, λ h. h)) refl (λ _ _. refl) xs).1 (k, lt, λ d. ap P (at d) ∙ e)
 
-any_all : (P : DueFacts → Bool) (Q : Type 0) (xs : List DueFacts) → All (λ x. P x ≡ true → Q) xs → any P xs ≡ true → Q
+any_all : (P : DueFacts → Bool) (Q : Type 0) (xs : List DueFacts) → AllByRecursion (λ x. P x ≡ true → Q) xs → any P xs ≡ true → Q
 any_all P Q [] all e = absurd (false≢true e)
 any_all P Q (x ∷ xs) all e = ⊎_elim all.0 (any_all P Q xs all.1) (or_cases (P x) (any P xs) e)
 
@@ -89,9 +89,9 @@ module _ (f : Facts) (r : Rates) (on : f.rates_on (last_day f) ≡ Some r) where
       subst (λ l. Has l (due_of f (peak_of f) r p c)) (sym all_dues) (up_to_has f (peak_of f) r (length f.kinds) p c low high e)
 
   -- a due that covers an account is the one of its point and charge
-  pub covering_due : (a : Account) → All (λ d. covers d a ≡ true → d ≡ due_of f (peak_of f) r a.point a.charge) (dues_of f)
+  pub covering_due : (a : Account) → AllByRecursion (λ d. covers d a ≡ true → d ≡ due_of f (peak_of f) r a.point a.charge) (dues_of f)
   covering_due a =
-      subst (All (λ d. covers d a ≡ true → d ≡ due_of f (peak_of f) r a.point a.charge)) (sym all_dues)
+      subst (AllByRecursion (λ d. covers d a ≡ true → d ≡ due_of f (peak_of f) r a.point a.charge)) (sym all_dues)
       (all_up_to f (peak_of f) r (λ d. covers d a ≡ true → d ≡ due_of f (peak_of f) r a.point a.charge) (length f.kinds)
       (λ p c _ _ _ e. let (ep, ec) = covered_is f (peak_of f) r p c a e in ap₂ (due_of f (peak_of f) r) ep ec))
 

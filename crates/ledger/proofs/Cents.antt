@@ -5,7 +5,7 @@ use Rattle.std.proofs.lemmas.List.{at_drop_more}
 use lib.IntN.{+ℤ_idl}
 use Rattle.std.proofs.lemmas.Int.{ints}
 use Rattle.std.proofs.lemmas.Bool.{eqb-true, eq-eqb, and_parts, false≢true, or_parts}
-use Rattle.std.specs.List.{flat_map, AllByRecursion as All}
+use Rattle.std.specs.List.{flat_map, AllByRecursion}
 use Rattle.std.proofs.ByRecursion.{All-get_or}
 use Rattle.tariff.specs.declared.charge.Charge.{Charge}
 use Rattle.tariff.specs.declared.charge.Charge.TheVariants as charge
@@ -82,7 +82,7 @@ every_at : {X : Type 0} (p : X → Bool) (xs : List X) (i : ℕ) (d : X) → i <
 every_at p xs i d h e =
     let a = All-get_or (λ x. p x ≡ true) xs i d h (go xs e) in a
   where
-    go : (ys : List _) → every p ys ≡ true → All (λ x. p x ≡ true) ys
+    go : (ys : List _) → every p ys ≡ true → AllByRecursion (λ x. p x ≡ true) ys
     go [] f = tt
     go (y ∷ ys) f = let k = and_parts (p y) (every p ys) f in (k.0, go ys k.1)
 

@@ -1,7 +1,7 @@
 -- What an accepted issue leaves: a sound ledger, in which the dues are settled and nothing else has moved.
 use Rattle.std.proofs.Common.{◌≡◌, ℕ, ◌+◌, ◌≤◌, min, Bool, true, false, cond, not, ◌&&◌, leb, List, [], ◌∷◌, ◌++◌, length, is_ok, Ok, Err, Result, sym, refl, ap, ◌∙◌, subst, arith}
 use Rattle.std.proofs.lemmas.Bool.{and_parts, and_from, leb-true, le-leb, cond-true, false≢true}
-use Rattle.std.specs.List.{flat_map, AllByRecursion as All}
+use Rattle.std.specs.List.{flat_map, AllByRecursion}
 use Rattle.tariff.specs.declared.refusal.Refusal.{Refusal}
 use Rattle.tariff.specs.declared.refusal.Refusal.TheVariants.{Unsound, LedgerFull, IncrementTooLarge}
 use Rattle.tariff.specs.declared.statement.Statement.{Statement}
@@ -134,8 +134,8 @@ module _ (g : Shelf Line) (s : Statement) (dues : List DueFacts) (ok : is_ok (is
       (ap (every sound_line) (sym (ap items issued_is) ∙ issued_items)
       ∙ every_both sound_line (items g) (new_lines g s dues) old.1 (new_sound s (items g) old.1 dues e accepted.smalls))
 
-  pub issued_settled : distinct dues ≡ true → All (Settled (items (issued g s dues))) dues
-  issued_settled e = subst (λ l. All (Settled l) dues) (sym issued_items) (settles s (items g) dues e)
+  pub issued_settled : distinct dues ≡ true → AllByRecursion (Settled (items (issued g s dues))) dues
+  issued_settled e = subst (λ l. AllByRecursion (Settled l) dues) (sym issued_items) (settles s (items g) dues e)
 
   pub issued_unmoved : Unmoved dues (items g) (items (issued g s dues))
   issued_unmoved = subst (Unmoved dues (items g)) (sym issued_items) (unmoved s (items g) dues)

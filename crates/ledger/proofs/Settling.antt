@@ -5,7 +5,7 @@ use Rattle.std.proofs.lemmas.Int.{ints}
 use Rattle.std.proofs.lemmas.Bool.{eqb-true, and_parts, false≢true, true≢false, or_parts, not-true, and_left}
 use Rattle.std.proofs.lemmas.Bool.Decides.{nat_tests}
 use Rattle.std.proofs.ByRecursion.{All-weaker}
-use Rattle.std.specs.List.{flat_map, AllByRecursion as All}
+use Rattle.std.specs.List.{flat_map, AllByRecursion}
 use Rattle.tariff.specs.declared.statement.Statement.{Statement}
 use Rattle.ledger.specs.declared.line.Line.{Line}
 use Rattle.ledger.specs.Dues.{DueFacts}
@@ -192,7 +192,7 @@ module _ (s : Statement) (lines : List Line) where
   Brings new d = (k t : PartyNumber) → cents_of (on_account (account_for d k t)) new ≡ increment lines d (account_for d k t)
 
   brings_later : (d : DueFacts) (new : List Line) (ds : List DueFacts) → any (same_item d) ds ≡ false
-      → All (Brings new) ds → All (Brings (due_lines s lines d ++ new)) ds
+      → AllByRecursion (Brings new) ds → AllByRecursion (Brings (due_lines s lines d ++ new)) ds
   brings_later d new [] e h = tt
   brings_later d new (x ∷ xs) e h =
       let f = or_parts (same_item d x) (any (same_item d) xs) e in (
@@ -203,7 +203,7 @@ module _ (s : Statement) (lines : List Line) where
         brings_later d new xs f.1 h.1,
       )
 
-  brings : (dues : List DueFacts) → distinct dues ≡ true → All (Brings (statement_lines s lines dues)) dues
+  brings : (dues : List DueFacts) → distinct dues ≡ true → AllByRecursion (Brings (statement_lines s lines dues)) dues
   brings [] e = tt
   brings (d ∷ ds) e =
       let f = and_parts (not (any (same_item d) ds)) (distinct ds) e in
@@ -222,7 +222,7 @@ module _ (s : Statement) (lines : List Line) where
       ∙ (ap (λ z. total_of (account_for d k t) lines +ℤ z) (h k t)
       ∙ less_then_plus (total_of (account_for d k t) lines) (terms_of d (account_for d k t)).cents)
 
-  pub settles : (dues : List DueFacts) → distinct dues ≡ true → All (Settled (lines ++ statement_lines s lines dues)) dues
+  pub settles : (dues : List DueFacts) → distinct dues ≡ true → AllByRecursion (Settled (lines ++ statement_lines s lines dues)) dues
   settles dues e =
       All-weaker (Brings (statement_lines s lines dues)) (Settled (lines ++ statement_lines s lines dues))
       (λ d h a c. subst (λ x. total_of x (lines ++ statement_lines s lines dues) ≡ (terms_of d x).cents) (covered_is d a c) (brought dues d h a.customer a.transmitter))

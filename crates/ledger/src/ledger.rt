@@ -1,6 +1,6 @@
 // A ledger over memory that the caller lends, with any contents, and a count of how many of its lines are in use.
 ghost use Rattle.std.specs.Prelude.{◌≡◌, ◌+◌, true, is_ok, IfOk};
-ghost use Rattle.std.specs.List.{AllByRecursion as All};
+ghost use Rattle.std.specs.List.{AllByRecursion};
 ghost use Rattle.tariff.specs.Shelves.{items};
 ghost use Rattle.ledger.specs.Lines.{every, sound_line};
 ghost use Rattle.ledger.specs.Dues.{all_facts};
@@ -126,7 +126,7 @@ impl Ledger<'_> {
         ensures lender { self.new.lines.ghost_name ≡ self.old.lines.ghost_name }
         ensures written { IfOk result (λ n. (shelf_of self.new).used ≡ (shelf_of self.old).used + n) }
         ensures sound { is_ok result ≡ true → sound_ledger (shelf_of self.new) ≡ true }
-        ensures settled { is_ok result ≡ true → distinct (all_facts dues.now) ≡ true → All (Settled (items (shelf_of self.new))) (all_facts dues.now) }
+        ensures settled { is_ok result ≡ true → distinct (all_facts dues.now) ≡ true → AllByRecursion (Settled (items (shelf_of self.new))) (all_facts dues.now) }
         ensures unmoved { is_ok result ≡ true → Unmoved (all_facts dues.now) (items (shelf_of self.old)) (items (shelf_of self.new)) }
     {
         let count = self.lines_to_write(statement, dues)?;

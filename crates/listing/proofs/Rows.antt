@@ -1,7 +1,7 @@
 -- A line's text: its length, and that it is split into the same lines and values again.
 use Rattle.std.proofs.Common.{◌≡◌, ℕ, ◌^◌, ◌<◌, ◌≤◌, true, false, ◌&&◌, leb, List, [], ◌∷◌, ◌++◌, map, length, take, ℤ, pos, negsuc, decimal, refl, ap, ◌∙◌, append_assoc, arith, length-append}
 use lib.Signed.{mag}
-use Rattle.std.specs.List.{flat_map, AllByRecursion as All}
+use Rattle.std.specs.List.{flat_map, AllByRecursion}
 use Rattle.std.specs.Char.{is_ascii_digit}
 use Rattle.std.proofs.lemmas.Fmt.{length-decimal-le, length_signed_le}
 use Rattle.std.proofs.ByRecursion.{All-append}
@@ -108,7 +108,7 @@ module _ (mark : ℕ) (apart : (c : ℕ) → 45 ≤ c → c ≤ 82 → c ≡ mar
   letters_free R6 = (apart 82 (omega arith) (omega arith), (apart 54 (omega arith) (omega arith), tt))
   letters_free RF = (apart 82 (omega arith) (omega arith), (apart 70 (omega arith) (omega arith), tt))
 
-  values_free : (l : Line) → Sized l → All (Free mark) (line_values l)
+  values_free : (l : Line) → Sized l → AllByRecursion (Free mark) (line_values l)
   values_free l s = (
     letters_free l.statement,
     (
@@ -139,11 +139,11 @@ module _ (mark : ℕ) (apart : (c : ℕ) → 45 ≤ c → c ≤ 82 → c ≡ mar
   )
 
 -- values that hold no mark are split into the same again
-parts_marked : (mark : ℕ) (p : List ℕ) (ps : List (List ℕ)) → All (Free mark) (p ∷ ps) → parts mark (marked mark (p ∷ ps)) ≡ p ∷ ps
+parts_marked : (mark : ℕ) (p : List ℕ) (ps : List (List ℕ)) → AllByRecursion (Free mark) (p ∷ ps) → parts mark (marked mark (p ∷ ps)) ≡ p ∷ ps
 parts_marked mark p [] f = parts_last mark p f.0
 parts_marked mark p (q ∷ qs) f = parts_first mark p (marked mark (q ∷ qs)) f.0 ∙ ap (λ l. p ∷ l) (parts_marked mark q qs f.1)
 
-free_marked : (other mark : ℕ) → (mark ≡ other → ⊥) → (ps : List (List ℕ)) → All (Free other) ps → Free other (marked mark ps)
+free_marked : (other mark : ℕ) → (mark ≡ other → ⊥) → (ps : List (List ℕ)) → AllByRecursion (Free other) ps → Free other (marked mark ps)
 free_marked other mark apart [] f = tt
 free_marked other mark apart (p ∷ []) f = f.0
 free_marked other mark apart (p ∷ q ∷ qs) f =
@@ -163,7 +163,7 @@ texts_lines (l ∷ ls) e =
     ∙ lines_line (line_row l) (flat_map line_text ls) (row_free l (sound_sized l h.0))
     ∙ ap (λ rows. line_row l ∷ rows) (texts_lines ls h.1)
 
-lines_values : (ls : List Line) → every sound_line ls ≡ true → All (λ l. parts 124 (line_row l) ≡ line_values l) ls
+lines_values : (ls : List Line) → every sound_line ls ≡ true → AllByRecursion (λ l. parts 124 (line_row l) ≡ line_values l) ls
 lines_values [] e = tt
 lines_values (l ∷ ls) e =
     let h = and_parts (sound_line l) (every sound_line ls) e in

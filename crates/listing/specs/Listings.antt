@@ -1,6 +1,6 @@
 -- The listing of a ledger, and what it is read back as.
 use Rattle.std.specs.Prelude.{◌≡◌, ℕ, cond, List, [], ◌∷◌, ◌++◌, map, Err, codes, Result}
-use Rattle.std.specs.List.{flat_map, AllByRecursion as All}
+use Rattle.std.specs.List.{flat_map, AllByRecursion}
 use Rattle.std.specs.Option.{ok_or}
 use Rattle.tariff.specs.declared.refusal.Refusal.{Refusal}
 use Rattle.tariff.specs.declared.refusal.Refusal.TheVariants.{Unsound, TextTooShort}
@@ -24,4 +24,4 @@ listing_answer g room = cond (sound_ledger g) (ok_or (fitting (listing_of (items
 -- a text whose lines are the header and one for each of ls, in order, and whose values, split at each `|` (124), are theirs
 pub record Listed (ls : List Line) (text : List ℕ) : Type 0 where
   pub rows : lines text ≡ header_row ∷ map line_row ls
-  pub values : All (λ l. parts 124 (line_row l) ≡ line_values l) ls
+  pub values : AllByRecursion (λ l. parts 124 (line_row l) ≡ line_values l) ls

@@ -1,7 +1,7 @@
 -- What the accounts of a month are due once its dues are settled: those of its charges by one due each, all others nothing.
 use Rattle.std.proofs.Common.{◌≡◌, ℕ, ◌≤◌, Bool, true, false, cond, ◌&&◌, List, length, pos, is_some, Some, None, Option, sym, refl, ap, ◌∙◌, ap₂}
 use Rattle.std.specs.Option.{option_or}
-use Rattle.std.specs.List.{AllByRecursion as All}
+use Rattle.std.specs.List.{AllByRecursion}
 use Rattle.std.proofs.ByRecursion.{all-has}
 use Rattle.std.proofs.lemmas.Bool.{and_parts, and_from, false≢true}
 use Rattle.tariff.specs.declared.charge.Charge.{Charge}
@@ -72,7 +72,7 @@ module _ (f : Facts) (complete : refusal_of f ≡ None) where
       ap₂ ◌&&◌ (party_is (f.customer_on a.point (last_day f)) a.customer known.0) (party_is (f.transmitter_on a.point (last_day f)) a.transmitter known.1)
 
   -- once the dues are settled and nothing else has moved, every account has what it is due
-  module _ (old new : List Line) (all : All (Settled new) (dues_of f)) (still : Unmoved (dues_of f) old new) (a : Account) where
+  module _ (old new : List Line) (all : AllByRecursion (Settled new) (dues_of f)) (still : Unmoved (dues_of f) old new) (a : Account) where
     by_charge : (rates : Rates) → f.rates_on (last_day f) ≡ Some rates
         → (b : Bool) → has_charge (kind_at f.kinds a.point) a.charge ≡ b → (b ≡ false → total_of a old ≡ pos 0)
         → total_of a new ≡ cond (b && on_record f a) (charge_due f (Some rates) a) (pos 0)

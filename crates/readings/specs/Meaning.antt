@@ -1,6 +1,6 @@
 -- What readings mean, whatever holds them.
 use Rattle.std.specs.Prelude.{◌≡◌, ℕ, ◌-◌, true, cond, ◌&&◌, List, length, is_ok, Some, None, Option, Result, ◌==◌, slice_index_or}
-use Rattle.std.specs.List.{AllByRecursion as All}
+use Rattle.std.specs.List.{AllByRecursion}
 use Rattle.tariff.specs.declared.reading.Reading.{Reading}
 use Rattle.tariff.specs.declared.reading.Reading.TheVariants.{Withdrawal}
 use Rattle.tariff.specs.declared.reading.Sheet.{Sheet}
@@ -23,7 +23,7 @@ pub record Proper (m : Meaning) (p d : ℕ) (rs : List Reading) : Type 0 where
   pub point : within m.points p ≡ true
   pub day : within m.days d ≡ true
   pub full : length rs ≡ 24
-  pub limited : All Allowed rs
+  pub limited : AllByRecursion Allowed rs
 
 abbrev pub Sound : Meaning → Type 0
 Sound m = (p d : ℕ) (rs : List Reading) → m.sheets p d ≡ Some rs → Proper m p d rs

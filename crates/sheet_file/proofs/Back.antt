@@ -3,7 +3,7 @@ use Rattle.std.proofs.Common.{◌≡◌, ℕ, ◌+◌, false, eqb, List, [], ◌
 use Rattle.std.specs.Option.{option_map, ok_or}
 use Rattle.std.specs.Result as results
 use Rattle.std.specs.Char.{is_ascii_digit}
-use Rattle.std.specs.List.{AllByRecursion as All}
+use Rattle.std.specs.List.{AllByRecursion}
 use Rattle.std.proofs.ByRecursion.{All-append}
 use Rattle.std.proofs.lemmas.List.{length-map, take_all, take_at}
 use Rattle.std.proofs.lemmas.Bool.{cond-true, eq-eqb}
@@ -29,7 +29,7 @@ use Rattle.sheet_file.proofs.Hours.{all_read}
 use Rattle.sheet_file.proofs.Replies.{part_from_okOr}
 use Rattle.sheet_file.proofs.Lengths.{Small, small_from_judged, line_short}
 
-values_hours : (v : List ℕ) (rs : List Reading) → Free 124 v → All (λ r. Free 124 (reading_text r)) rs → values (v ++ hours_text rs) ≡ v ∷ map reading_text rs
+values_hours : (v : List ℕ) (rs : List Reading) → Free 124 v → AllByRecursion (λ r. Free 124 (reading_text r)) rs → values (v ++ hours_text rs) ≡ v ∷ map reading_text rs
 values_hours v [] f g = ap values (append-nil v) ∙ parts_last 124 v f
 values_hours v (r ∷ rs) f g =
     parts_first 124 v (reading_text r ++ hours_text rs) f ∙ ap (λ l. v ∷ l) (values_hours (reading_text r) rs g.0 g.1)
@@ -42,17 +42,17 @@ reading_back : (r : Reading) → Allowed r → reading_of (reading_text r) ≡ S
 reading_back (Withdrawal q) h = ap (option_map Withdrawal) (number_back 8 q (omega arith) (omega arith) (omega arith))
 reading_back (Injection q) h = ap (option_map Injection) (number_back 8 q (omega arith) (omega arith) (omega arith))
 
-readings_back : (p : ℕ) (rs : List Reading) → All Allowed rs → readings_from p (map reading_text rs) ≡ Ok rs
+readings_back : (p : ℕ) (rs : List Reading) → AllByRecursion Allowed rs → readings_from p (map reading_text rs) ≡ Ok rs
 readings_back p [] h = refl
 readings_back p (r ∷ rs) h =
     ap (λ o. and_then (ok_or o p) (λ x. and_then (readings_from (p + 1) (map reading_text rs)) (λ xs. Ok (x ∷ xs)))) (reading_back r h.0)
     ∙ ap (λ x. and_then x (λ xs. Ok (r ∷ xs))) (readings_back (p + 1) rs h.1)
 
-free_readings : (m : ℕ) (rs : List Reading) → is_ascii_digit m ≡ false → (87 ≡ m → ⊥) → (73 ≡ m → ⊥) → All Allowed rs → All (λ r. Free m (reading_text r)) rs
+free_readings : (m : ℕ) (rs : List Reading) → is_ascii_digit m ≡ false → (87 ≡ m → ⊥) → (73 ≡ m → ⊥) → AllByRecursion Allowed rs → AllByRecursion (λ r. Free m (reading_text r)) rs
 free_readings m [] other w i h = tt
 free_readings m (r ∷ rs) other w i h = (free_reading m r other w i h.0, free_readings m rs other w i h.1)
 
-free_hours : (m : ℕ) (rs : List Reading) → (124 ≡ m → ⊥) → All (λ r. Free m (reading_text r)) rs → Free m (hours_text rs)
+free_hours : (m : ℕ) (rs : List Reading) → (124 ≡ m → ⊥) → AllByRecursion (λ r. Free m (reading_text r)) rs → Free m (hours_text rs)
 free_hours m [] b f = tt
 free_hours m (r ∷ rs) b f = (b, All-append (λ c. c ≡ m → ⊥) (reading_text r) (hours_text rs) f.0 (free_hours m rs b f.1))
 

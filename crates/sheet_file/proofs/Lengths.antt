@@ -1,6 +1,6 @@
 -- A line's text as it grows, and how long it is.
 use Rattle.std.proofs.Common.{◌≡◌, ℕ, ◌+◌, ◌*◌, ◌<◌, ◌≤◌, true, false, cond, leb, List, [], ◌∷◌, ◌++◌, length, get_or, take, Some, Ok, Err, decimal, sym, refl, ap, ◌∙◌, arith, length-append}
-use Rattle.std.specs.List.{AllByRecursion as All}
+use Rattle.std.specs.List.{AllByRecursion}
 use Rattle.std.proofs.lemmas.List.{take_more, flat_map_more}
 use Rattle.std.proofs.lemmas.Fmt.{length-decimal-le}
 use Rattle.std.proofs.lemmas.Bool.{leb-true}
@@ -21,12 +21,12 @@ hours_more t rs i d h =
 pub record Small (s : Sheet) : Type 0 where
   pub point : s.point ≤ 400
   pub day : s.day ≤ 31
-  pub quantities : All Allowed s.readings
+  pub quantities : AllByRecursion Allowed s.readings
 
-allowed : (h : ℕ) (rs : List Reading) → quantities_judged (too_large h rs) ≡ Ok tt → All Allowed rs
+allowed : (h : ℕ) (rs : List Reading) → quantities_judged (too_large h rs) ≡ Ok tt → AllByRecursion Allowed rs
 allowed h [] e = tt
 allowed h (r ∷ rs) e =
-    elim (leb (quantity_of r) 99999999) as (λ b. leb (quantity_of r) 99999999 ≡ b → quantities_judged (cond b (too_large (h + 1) rs) (Some h)) ≡ Ok tt → All Allowed (r ∷ rs)) [
+    elim (leb (quantity_of r) 99999999) as (λ b. leb (quantity_of r) 99999999 ≡ b → quantities_judged (cond b (too_large (h + 1) rs) (Some h)) ≡ Ok tt → AllByRecursion Allowed (r ∷ rs)) [
       | true ↦ λ is e. (leb-true (quantity_of r) 99999999 is, allowed (h + 1) rs e)
       | false ↦ λ is e. let z : ◌≡◌ {A = ℕ} 0 1 = cc in absurd (omega arith)
     ] refl e
@@ -50,7 +50,7 @@ reading_short : (r : Reading) → Allowed r → length (reading_text r) ≤ 9
 reading_short (Withdrawal q) h = let short = length-decimal-le 8 q (omega arith) (omega arith) (omega arith) in omega arith
 reading_short (Injection q) h = let short = length-decimal-le 8 q (omega arith) (omega arith) (omega arith) in omega arith
 
-hours_short : (rs : List Reading) → All Allowed rs → length (hours_text rs) ≤ 10 * length rs
+hours_short : (rs : List Reading) → AllByRecursion Allowed rs → length (hours_text rs) ≤ 10 * length rs
 hours_short [] h = omega arith
 hours_short (r ∷ rs) h =
     omega (arith, reading_short r h.0, hours_short rs h.1, length-append (reading_text r) (hours_text rs))

@@ -1,6 +1,6 @@
 -- What a sheet or a size that is not refused is like.
 use Rattle.std.proofs.Common.{◌≡◌, ℕ, ◌≤◌, Bool, true, false, cond, ◌&&◌, leb, is_ok, Some, None, Ok, Err, Option, Result, refl, arith}
-use Rattle.std.specs.List.{AllByRecursion as All}
+use Rattle.std.specs.List.{AllByRecursion}
 use Rattle.std.proofs.lemmas.Bool.{and_parts, leb-true}
 use Rattle.tariff.specs.declared.reading.Sheet.{Sheet}
 use Rattle.tariff.specs.declared.refusal.Refusal.TheVariants.{StoreDoesNotFit}
@@ -22,7 +22,7 @@ pub record Passed (n days : ℕ) (s : Sheet) : Type 0 where
   pub point : within n s.point ≡ true
   pub day : within days s.day ≡ true
   pub none : too_large 1 s.readings ≡ None
-  pub allowed : All Allowed s.readings
+  pub allowed : AllByRecursion Allowed s.readings
 
 pub judged_ok : (n days : ℕ) (s : Sheet) → judged n days s ≡ Ok tt → Passed n days s
 judged_ok n days s e =

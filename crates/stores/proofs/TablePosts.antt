@@ -1,6 +1,6 @@
 -- What a sheet that is posted to a table changes, and what is read of a table.
 use Rattle.std.proofs.Common.{◌≡◌, ℕ, ◌+◌, ◌-◌, ◌*◌, ◌<◌, ◌≤◌, Bool, true, false, cond, ◌&&◌, eqb, ◌⊎◌, List, map, length, get_or, take, drop, is_ok, Some, None, Ok, sym, refl, ap, ◌∙◌, ap₂, inl, inr, ⊎_elim, arith}
-use Rattle.std.specs.List.{AllByRecursion as All}
+use Rattle.std.specs.List.{AllByRecursion}
 use Rattle.std.proofs.ByRecursion.{All-get_or}
 use Rattle.std.proofs.lemmas.List.{ext_get_or, get_or-map, length-map, length-take-le, length-drop, get_or-take, get_or-drop}
 use Rattle.std.proofs.lemmas.Bool.{cond-true, cond-false, and_parts, and_from, and_left, and_right, ne_eqb, eq-eqb, cases_eq, cases_order}
@@ -48,7 +48,7 @@ encoded_small : (r : Reading) → Allowed r → encoded r < 4294967295
 encoded_small (Withdrawal q) h = omega arith
 encoded_small (Injection q) h = omega arith
 
-day_written : (ws : List ℕ) (o : ℕ) (rs : List Reading) → length rs ≡ 24 → o + 24 ≤ length ws → All Allowed rs → day_at (with_day ws o rs) o ≡ Some rs
+day_written : (ws : List ℕ) (o : ℕ) (rs : List Reading) → length rs ≡ 24 → o + 24 ≤ length ws → AllByRecursion Allowed rs → day_at (with_day ws o rs) o ≡ Some rs
 day_written ws o rs full fits allowed =
     let ms = map encoded rs in
     let ws' = with_day ws o rs in

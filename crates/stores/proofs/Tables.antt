@@ -1,6 +1,6 @@
 -- What a table of numbers means, and what a day that is written changes.
 use Rattle.std.proofs.Common.{◌≡◌, ℕ, ◌+◌, ◌-◌, ◌*◌, ◌%◌, ◌<◌, ◌≤◌, true, ◌&&◌, List, [], ◌∷◌, ◌++◌, map, length, get_or, take, drop, replicate, is_ok, None, sym, refl, ap, ◌∙◌, arith}
-use Rattle.std.specs.List.{AllByRecursion as All}
+use Rattle.std.specs.List.{AllByRecursion}
 use Rattle.std.proofs.lemmas.List.{get_or-replicate, length-replicate, length-map, length-take-le, length-drop, get_or-take, get_or-drop, get_or_append_left, get_or-append_right, length-append}
 use Rattle.std.proofs.lemmas.Bool.{cond_both, cond-true, cond-false, and_parts, eq-eqb, lt-ltb, le-ltb}
 use Rattle.tariff.specs.declared.reading.Reading.{Reading}
@@ -17,7 +17,7 @@ decoded_encoded : (r : Reading) → Allowed r → decoded (encoded r) ≡ r
 decoded_encoded (Withdrawal q) h = cond-true _ _ _ (lt-ltb q 100000000 (omega arith))
 decoded_encoded (Injection q) h = let e : (q + 100000000) % 100000000 ≡ q = omega arith in cond-false _ _ _ (le-ltb (q + 100000000) 100000000 (omega arith)) ∙ ap Injection e
 
-pub all_decoded : (rs : List Reading) → All Allowed rs → map decoded (map encoded rs) ≡ rs
+pub all_decoded : (rs : List Reading) → AllByRecursion Allowed rs → map decoded (map encoded rs) ≡ rs
 all_decoded [] h = refl
 all_decoded (r ∷ rs) h = let e = decoded_encoded r h.0 in let f = all_decoded rs h.1 in cc
 

@@ -1,6 +1,6 @@
 -- The parts and the lines of a text, put together again.
 use Rattle.std.proofs.Common.{◌≡◌, ℕ, ◌<◌, Bool, true, false, cond, eqb, List, [], ◌∷◌, ◌++◌, length, sym, refl, ap, ◌∙◌, arith}
-use Rattle.std.specs.List.{AllByRecursion as All}
+use Rattle.std.specs.List.{AllByRecursion}
 use Rattle.std.proofs.lemmas.Bool.{eqb-true, eqb-false}
 use Rattle.text.specs.Format.{onto, lines, parts}
 use Rattle.text.specs.Laws.{Free, marked, ended, closed, Parts-stand, Lines-stand}
@@ -24,14 +24,14 @@ parts_join mark (c ∷ cs) =
       | false ↦ λ e. marked_onto mark c (parts mark cs) (some_parts mark cs) ∙ ap (λ l. c ∷ l) (parts_join mark cs)
     ] refl
 
-free_onto : (mark c : ℕ) (ps : List (List ℕ)) → (c ≡ mark → ⊥) → All (Free mark) ps → All (Free mark) (onto c ps)
+free_onto : (mark c : ℕ) (ps : List (List ℕ)) → (c ≡ mark → ⊥) → AllByRecursion (Free mark) ps → AllByRecursion (Free mark) (onto c ps)
 free_onto mark c [] h f = ((h, tt), tt)
 free_onto mark c (p ∷ ps) h f = ((h, f.0), f.1)
 
-parts_free : (mark : ℕ) (xs : List ℕ) → All (Free mark) (parts mark xs)
+parts_free : (mark : ℕ) (xs : List ℕ) → AllByRecursion (Free mark) (parts mark xs)
 parts_free mark [] = (tt, tt)
 parts_free mark (c ∷ cs) =
-    elim (eqb c mark) as (λ b. eqb c mark ≡ b → All (Free mark) (cond b ([] ∷ parts mark cs) (onto c (parts mark cs)))) [
+    elim (eqb c mark) as (λ b. eqb c mark ≡ b → AllByRecursion (Free mark) (cond b ([] ∷ parts mark cs) (onto c (parts mark cs)))) [
       | true ↦ λ e. (tt, parts_free mark cs)
       | false ↦ λ e. free_onto mark c (parts mark cs) (eqb-false c mark e) (parts_free mark cs)
     ] refl
@@ -39,10 +39,10 @@ parts_free mark (c ∷ cs) =
 pub parts_stand : (mark : ℕ) (xs : List ℕ) → Parts-stand mark xs
 parts_stand mark xs = record { whole = parts_join mark xs; free = parts_free mark xs }
 
-lines_free : (xs : List ℕ) → All (Free 10) (lines xs)
+lines_free : (xs : List ℕ) → AllByRecursion (Free 10) (lines xs)
 lines_free [] = tt
 lines_free (c ∷ cs) =
-    elim (eqb c 10) as (λ b. eqb c 10 ≡ b → All (Free 10) (cond b ([] ∷ lines cs) (onto c (lines cs)))) [
+    elim (eqb c 10) as (λ b. eqb c 10 ≡ b → AllByRecursion (Free 10) (cond b ([] ∷ lines cs) (onto c (lines cs)))) [
       | true ↦ λ e. (tt, lines_free cs)
       | false ↦ λ e. free_onto 10 c (lines cs) (eqb-false c 10 e) (lines_free cs)
     ] refl

@@ -1,6 +1,6 @@
 // What the table does.
 ghost use Rattle.std.specs.Prelude.{◌≡◌, ◌+◌, ◌*◌, ◌≤◌, ◌&&◌, map, length, replicate, IfSome, is_ok, if◌then◌else◌, Some, None};
-ghost use Rattle.std.specs.List.{AllByRecursion as All};
+ghost use Rattle.std.specs.List.{AllByRecursion};
 ghost use Rattle.tariff.specs.Ranges.{within};
 ghost use Rattle.tariff.specs.Readings.{Allowed};
 ghost use Rattle.readings.specs.Meaning.{verdict, after_post};
@@ -46,7 +46,7 @@ fn decode(word: u32) -> Reading
 impl<'a> Words<'a> {
     // Writes a day's readings from `start` on.
     fn store(&mut self, start: usize, readings: &[Reading; 24])
-        requires { (start + 24 ≤ length self.old.words.now) × (All Allowed readings.now) }
+        requires { (start + 24 ≤ length self.old.words.now) × (AllByRecursion Allowed readings.now) }
         ensures { self.new.words.now ≡ with_day self.old.words.now start readings.now }
     {
         store_day(self.words, start, readings);
@@ -104,7 +104,7 @@ fn clear(words: &mut [u32])
 
 // Writes a day's readings over 24 numbers.
 fn write_day(words: &mut [u32], readings: &[Reading; 24])
-    requires { (length words.old ≡ 24) × (All Allowed readings.now) }
+    requires { (length words.old ≡ 24) × (AllByRecursion Allowed readings.now) }
     ensures { words.new ≡ map encoded readings.now }
 {
     for (i, reading) in readings.iter().enumerate() {
@@ -114,7 +114,7 @@ fn write_day(words: &mut [u32], readings: &[Reading; 24])
 
 // Writes a day's readings over the 24 numbers from `start` on.
 fn store_day(words: &mut [u32], start: usize, readings: &[Reading; 24])
-    requires { (start + 24 ≤ length words.old) × (All Allowed readings.now) }
+    requires { (start + 24 ≤ length words.old) × (AllByRecursion Allowed readings.now) }
     ensures { words.new ≡ with_day words.old start readings.now }
 {
     write_day(&mut words[start..start + 24], readings);

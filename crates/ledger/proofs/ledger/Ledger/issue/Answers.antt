@@ -1,5 +1,5 @@
 use Rattle.std.proofs.Common.{◌≡◌, true, sym, refl, ap, ◌∙◌, subst}
-use Rattle.std.specs.List.{AllByRecursion as All}
+use Rattle.std.specs.List.{AllByRecursion}
 use Rattle.tariff.specs.Shelves.{Shelf, items}
 use Rattle.ledger.specs.declared.line.Line.{Line}
 use Rattle.ledger.specs.Dues.{all_facts}
@@ -24,6 +24,6 @@ returns c =
       lender = refl;
       written = ap (λ (z : Shelf Line). z.used) after ∙ issued_used g s dues ok n answer;
       sound = λ _. subst (λ z. sound_ledger z ≡ true) (sym after) (issued_sound g s dues ok (dues_sound c.args.dues.now));
-      settled = λ _ e. subst (λ z. All (Settled (items z)) dues) (sym after) (issued_settled g s dues ok e);
+      settled = λ _ e. subst (λ z. AllByRecursion (Settled (items z)) dues) (sym after) (issued_settled g s dues ok e);
       unmoved = λ _. subst (λ z. Unmoved dues (items g) (items z)) (sym after) (issued_unmoved g s dues ok);
     }
