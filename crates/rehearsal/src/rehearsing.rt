@@ -9,8 +9,8 @@ use crate::generator::months::{
 };
 use crate::plain::{Answer, Matter, PlainCall, PlainMonth, PlainPoint, RuleKind, StorePlan, put};
 use crate::second::book::{Book, declared_points};
-use crate::second::calendar::first_day;
-use crate::second::dues::due_of;
+use crate::second::days::first_day;
+use crate::second::owed::due_of;
 use crate::second::taking::judge_store;
 use crate::settling::{Script, compare_making, settle_month};
 use crate::tally::Tally;

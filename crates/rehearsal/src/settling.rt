@@ -3,7 +3,7 @@ use crate::comparing::{compare_all, compare_call};
 use crate::driving::{line_memory, party_memory, rates_memory, refusal_answer, service_memory};
 use crate::plain::{Answer, Matter, PlainCall, PlainMonth, PlainPoint, RuleKind, filled};
 use crate::second::book::{Book, judge_point};
-use crate::second::calendar::judge_month;
+use crate::second::days::judge_month;
 use crate::tally::Tally;
 use crate::thirds::EveryThirdHour;
 use calendar::month::Calendar;

@@ -6,7 +6,7 @@ use crate::generator::files::some_file;
 use crate::plain::{Answer, Matter, PlainCall, PlainSheet, filled, put};
 use crate::second::book::Book;
 use crate::second::file::{FileLine, read_file};
-use crate::second::text::{judge_written, push_sheet};
+use crate::second::written::{judge_written, push_sheet};
 use crate::tally::Tally;
 use sheet_file::faults::FileFault;
 use sheet_file::file::SheetReader;

@@ -6,7 +6,7 @@ use crate::plain::{
     Brought, LineShelf, PlainEntry, PlainLine, PlainMonth, RuleKind, Shelf, StorePlan, Topic,
     filled,
 };
-use crate::second::calendar::days_in;
+use crate::second::days::days_in;
 use std::alloc::Global;
 
 // Memory that is not in use may hold anything.

@@ -2,7 +2,7 @@
 use super::dice::Dice;
 use crate::plain::{PlainCall, PlainEntry, PlainReading, PlainSheet, Topic, in_use, put};
 use crate::second::book::Book;
-use crate::second::dues::number_of;
+use crate::second::owed::number_of;
 use std::alloc::Global;
 
 // Few, so that equal hours are common; 84,999 and 85,000 lie on either side of 85 per cent of 100,000.

@@ -2,7 +2,7 @@
 use super::calls::some_sheet;
 use super::dice::Dice;
 use crate::plain::{put, put_all};
-use crate::second::text::push_sheet;
+use crate::second::written::push_sheet;
 use std::alloc::Global;
 
 const ODD_BYTES: [u32; 10] = [48, 57, 73, 87, 119, 124, 32, 45, 0, 255];

@@ -1,7 +1,7 @@
 // Months and the points that they settle.
 use super::dice::Dice;
 use crate::plain::{PlainMonth, PlainPoint, RuleKind, put};
-use crate::second::calendar::days_in;
+use crate::second::days::days_in;
 use std::alloc::Global;
 
 const YEARS: [u32; 8] = [2000, 2001, 2004, 2023, 2024, 2050, 2096, 2099];

@@ -1,6 +1,6 @@
 // The second calculation's book of a month: all that was brought and every accepted call. What is on record, what was read and
 // what is due are worked out from these anew each time.
-use super::calendar::{days_in, first_day};
+use super::days::{days_in, first_day};
 use crate::plain::{
     Answer, Brought, PlainCall, PlainEntry, PlainLine, PlainMonth, PlainPoint, PlainReading, Shelf,
     Topic, counted, in_use, put, put_all, refused,

@@ -1,5 +1,5 @@
 // The greatest quantity, found by going through every hour.
-use super::calendar::HourTable;
+use super::days::HourTable;
 
 // A quantity for each hour of 31 days.
 pub type DemandTable = [[u64; 24]; 31];

@@ -1,6 +1,6 @@
 // Statements: whether one may be issued, and the lines that it writes.
 use super::book::Book;
-use super::dues::{PlainDue, number_of};
+use super::owed::{PlainDue, number_of};
 use super::soundness::{LINE_LIMIT, LINES_LIMIT, ledger_is_sound, shelf_is_sound};
 use crate::plain::{
     Answer, PlainAccount, PlainCall, PlainLine, Topic, counted, in_use, put, put_all, refused,

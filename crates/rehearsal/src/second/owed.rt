@@ -1,6 +1,6 @@
 // What is due: determinants and charges, worked out from the accepted sheets and entries.
 use super::book::{Book, latest_of};
-use super::calendar::{HourTable, admitted_hours, whole_month};
+use super::days::{HourTable, admitted_hours, whole_month};
 use super::peaks::{DemandTable, NO_DEMAND, Peak, greatest, quantity_at};
 use crate::plain::{PlainAccount, PlainCall, PlainPoint, PlainReading, Topic, put};
 
