@@ -11,19 +11,19 @@ use hours::rules::HourRule;
 use readings::readings::SheetStore;
 use tariff::refusal::Refusal;
 
-fn plain_outcome(res: Result<(), Refusal>) -> Outcome
-    ensures { result ≡ plain res }
+fn plain_outcome(answer: Result<(), Refusal>) -> Outcome
+    ensures { result ≡ plain answer }
 {
-    match res {
+    match answer {
         Ok(()) => Outcome::Accepted(0),
         Err(refusal) => Outcome::Refused(refusal),
     }
 }
 
-fn counted_outcome(res: Result<usize, Refusal>) -> Outcome
-    ensures { result ≡ counted res }
+fn counted_outcome(answer: Result<usize, Refusal>) -> Outcome
+    ensures { result ≡ counted answer }
 {
-    match res {
+    match answer {
         Ok(lines) => Outcome::Accepted(lines),
         Err(refusal) => Outcome::Refused(refusal),
     }
