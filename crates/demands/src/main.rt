@@ -1,11 +1,11 @@
 // Prints the billing demands of a month of sheets.
 #![tactic(auto)]
 
-use anyhow::anyhow;
 use desk::demands::run;
 use std::io::{BufWriter, Write};
+use std::process::ExitCode;
 
-fn main(rt: HostRuntime) -> anyhow::Result<()> {
+fn main(rt: HostRuntime) -> anyhow::Result<ExitCode> {
     let mut out = BufWriter::new(rt.alloc(), rt.stdout())?;
     let mut faults = BufWriter::new(rt.alloc(), rt.stderr())?;
     let result = run(&rt, &mut out, &mut faults);
@@ -15,8 +15,7 @@ fn main(rt: HostRuntime) -> anyhow::Result<()> {
     out.flush()?;
     faults.flush()?;
     match result {
-        Ok(true) => Ok(()),
-        Ok(false) => Err(anyhow!("refused")),
-        Err(fault) => Err(fault),
+        Ok(true) => Ok(ExitCode::SUCCESS),
+        Ok(false) | Err(_) => Ok(ExitCode::FAILURE),
     }
 }

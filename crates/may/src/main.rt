@@ -3,7 +3,6 @@
 
 mod journal;
 
-use anyhow::anyhow;
 use hours::rules::{HourRule, PeakPeriod};
 use ledger::ledger::Ledger;
 use ledger::line::Line;
@@ -13,6 +12,7 @@ use readings::readings::SheetStore;
 use records::dated::Dated;
 use records::history::History;
 use std::io::Write;
+use std::process::ExitCode;
 use stores::full_table::FullTable;
 use tariff::charge::Charge;
 use tariff::parties::{PartyNumber, Rates, Service};
@@ -109,7 +109,7 @@ fn settle_may(
     settle(setup, store, peak_period, calls, text)
 }
 
-fn main(rt: HostRuntime) -> anyhow::Result<()> {
+fn main(rt: HostRuntime) -> anyhow::Result<ExitCode> {
     let heap = rt.alloc();
     let mut calls = journal::calls(heap)?;
     let mut words = vec![in heap; 0u32; 3 * 31 * 24]?;
@@ -122,12 +122,12 @@ fn main(rt: HostRuntime) -> anyhow::Result<()> {
         Ok(length) => {
             text.truncate(length);
             rt.stdout().write_all(text.as_slice())?;
-            Ok(())
+            Ok(ExitCode::SUCCESS)
         }
         Err(refusal) => {
             let number = refusal.number();
             eprintln!(rt; "may: refused {number}")?;
-            Err(anyhow!("refused"))
+            Ok(ExitCode::FAILURE)
         }
     }
 }

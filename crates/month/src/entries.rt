@@ -14,6 +14,7 @@ use tariff::refusal::Refusal;
 
 // Enters a customer or a transmitter of a point. Refuses an unsound history, then a point that is not declared, a from-day
 // after the last, a party number out of range, and a new entry without a place left.
+#[tactic(auto, using(crate::proofs::Entering::entered_if))]
 pub(crate) fn enter_party(
     points: &PointList,
     history: &mut History<PartyNumber>,
@@ -39,6 +40,7 @@ pub(crate) fn enter_party(
 
 // Enters the service of a connection point. Refuses an unsound history, then a point that is not declared, a network point,
 // a from-day after the last, and a new entry without a place left.
+#[tactic(auto, using(crate::proofs::Entering::entered_if))]
 pub(crate) fn enter_service(
     points: &PointList,
     history: &mut History<Service>,
@@ -64,6 +66,7 @@ pub(crate) fn enter_service(
 
 // Enters rates. Refuses an unsound history, then a from-day after the last, a rate too high, and a new entry without a
 // place left.
+#[tactic(auto, using(crate::proofs::Entering::entered_if))]
 pub(crate) fn enter_rates(
     history: &mut History<Rates>,
     from_day: u32,

@@ -15,6 +15,7 @@ use crate::set_up::await_month;
 use job::lines::JobLines;
 use std::env;
 use std::io::{BufWriter, Write};
+use std::process::ExitCode;
 
 const USAGE: &str = "\
 usage: settle [FILE..]
@@ -60,12 +61,15 @@ fn run<W: Write>(rt: &HostRuntime, out: &mut W) -> anyhow::Result<()> {
     Ok(())
 }
 
-fn main(rt: HostRuntime) -> anyhow::Result<()> {
+fn main(rt: HostRuntime) -> anyhow::Result<ExitCode> {
     let mut out = BufWriter::new(rt.alloc(), rt.stdout())?;
     let result = run(&rt, &mut out);
     out.flush()?;
-    if let Err(fault) = &result {
-        eprintln!(rt; "settle: {fault}")?;
+    match result {
+        Ok(()) => Ok(ExitCode::SUCCESS),
+        Err(fault) => {
+            eprintln!(rt; "settle: {fault}")?;
+            Ok(ExitCode::FAILURE)
+        }
     }
-    result
 }

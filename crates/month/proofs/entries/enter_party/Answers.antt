@@ -1,10 +1,9 @@
 use Rattle.std.proofs.Common.{◌≡◌, ◌≤◌, length, sym, ◌∙◌, arith, rules}
 use Rattle.tariff.specs.Parties.{party_in_range}
 use Rattle.tariff.specs.Points.{kinds_of}
-use Rattle.records.specs.Entering.{dated}
 use Rattle.records.specs.Histories.{shelf_of}
 use Rattle.records.specs.Soundness.{sound_within, check_answer}
-use Rattle.month.proofs.Entering.{not_sound, left_alone, entered_if, party_reached}
+use Rattle.month.proofs.Entering.{not_sound, left_alone, party_reached}
 use Rattle.month.proofs.entries.enter_party.Goals as goal
 
 pub returns-in_err-check : goal.returns-in_err-check
@@ -18,15 +17,11 @@ returns-in_err-check c =
       after = left_alone r _ _ bad;
     }
 
-pub returns : goal.returns
-returns c =
+pub returns-clause-answer : goal.returns-clause-answer
+returns-clause-answer c =
     let h = shelf_of c.args.history.now in
     let kinds = kinds_of c.args.points.now in
     let p = c.args.point in
-    let d = c.args.from_day in
-    let k = c.args.party in
     let high : p ≤ length kinds = omega arith in
-    record {
-      answer = c.enter.ensures.answer ∙ sym (party_reached kinds h p d k _ c.in_ok-check.ensures c.if-point-lt1.false high c.if-from_day-gt-LAST_FROM_DAY.false (sym c.if-not-is_in_range.ensures));
-      after = entered_if h (shelf_of c.enter.new.self) (dated p d k) c.enter.result c.enter.ensures.answer c.enter.ensures.entered;
-    }
+    c.enter.ensures.answer
+    ∙ sym (party_reached kinds h p c.args.from_day c.args.party _ c.in_ok-check.ensures c.if-point-lt1.false high c.if-from_day-gt-LAST_FROM_DAY.false (sym c.if-not-is_in_range.ensures))

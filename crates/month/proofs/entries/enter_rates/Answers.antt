@@ -1,9 +1,8 @@
 use Rattle.std.proofs.Common.{◌≡◌, sym, ◌∙◌, rules}
 use Rattle.tariff.specs.Parties.{rates_in_range}
-use Rattle.records.specs.Entering.{dated}
 use Rattle.records.specs.Histories.{shelf_of}
 use Rattle.records.specs.Soundness.{sound_within, check_answer}
-use Rattle.month.proofs.Entering.{not_sound, left_alone, entered_if, rates_reached}
+use Rattle.month.proofs.Entering.{not_sound, left_alone, rates_reached}
 use Rattle.month.proofs.entries.enter_rates.Goals as goal
 
 pub returns-in_err-check : goal.returns-in_err-check
@@ -17,11 +16,7 @@ returns-in_err-check c =
       after = left_alone r _ _ bad;
     }
 
-pub returns : goal.returns
-returns c =
-    let h = shelf_of c.args.history.now in
-    let e = dated 0 c.args.from_day c.args.rates in
-    record {
-      answer = c.enter.ensures.answer ∙ sym (rates_reached h c.args.from_day c.args.rates _ c.in_ok-check.ensures c.if-from_day-gt-LAST_FROM_DAY.false (sym c.if-not-is_in_range.ensures));
-      after = entered_if h (shelf_of c.enter.new.self) e c.enter.result c.enter.ensures.answer c.enter.ensures.entered;
-    }
+pub returns-clause-answer : goal.returns-clause-answer
+returns-clause-answer c =
+    c.enter.ensures.answer
+    ∙ sym (rates_reached (shelf_of c.args.history.now) c.args.from_day c.args.rates _ c.in_ok-check.ensures c.if-from_day-gt-LAST_FROM_DAY.false (sym c.if-not-is_in_range.ensures))

@@ -1,9 +1,8 @@
 use Rattle.std.proofs.Common.{◌≡◌, true, sym, ◌∙◌, rules}
 use Rattle.tariff.specs.Points.{kinds_of}
-use Rattle.records.specs.Entering.{dated}
 use Rattle.records.specs.Histories.{shelf_of}
 use Rattle.records.specs.Soundness.{sound_within, check_answer}
-use Rattle.month.proofs.Entering.{not_sound, left_alone, entered_if, service_reached}
+use Rattle.month.proofs.Entering.{not_sound, left_alone, service_reached}
 use Rattle.month.proofs.entries.enter_service.Goals as goal
 
 pub returns-in_err-check : goal.returns-in_err-check
@@ -17,14 +16,9 @@ returns-in_err-check c =
       after = left_alone r _ _ bad;
     }
 
-pub returns : goal.returns
-returns c =
+pub returns-clause-answer : goal.returns-clause-answer
+returns-clause-answer c =
     let h = shelf_of c.args.history.now in
     let kinds = kinds_of c.args.points.now in
-    let p = c.args.point in
-    let d = c.args.from_day in
-    let x = c.args.service in
-    record {
-      answer = c.enter.ensures.answer ∙ sym (service_reached kinds h p d x _ _ c.in_ok-check.ensures (sym c.in-Some.ensures) (sym c.if-is_network.ensures) c.if-from_day-gt-LAST_FROM_DAY.false);
-      after = entered_if h (shelf_of c.enter.new.self) (dated p d x) c.enter.result c.enter.ensures.answer c.enter.ensures.entered;
-    }
+    c.enter.ensures.answer
+    ∙ sym (service_reached kinds h c.args.point c.args.from_day c.args.service _ _ c.in_ok-check.ensures (sym c.in-Some.ensures) (sym c.if-is_network.ensures) c.if-from_day-gt-LAST_FROM_DAY.false)
