@@ -26,6 +26,7 @@ pub struct Histories<'a, 'm> {
 
 impl Histories<'_, '_> {
     // Refuses histories of which one is not sound.
+    #[tactic(auto, using(crate::proofs::Outcome::passed_here, crate::proofs::Outcome::refused_here))]
     pub fn check(&self) -> Result<(), Refusal>
         ensures { result ≡ (if sound_records (records_of self.now) then Ok tt else Err Unsound) }
     {

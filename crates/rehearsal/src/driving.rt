@@ -144,22 +144,22 @@ pub fn outcome_answer(outcome: Outcome) -> Answer {
     }
 }
 
-pub fn length_answer(res: Result<usize, Refusal>) -> Answer {
-    match res {
+pub fn length_answer(outcome: Result<usize, Refusal>) -> Answer {
+    match outcome {
         Ok(length) => counted(length),
         Err(refusal) => refusal_answer(refusal),
     }
 }
 
-pub fn cents_answer(res: Result<i64, Refusal>) -> Answer {
-    match res {
+pub fn cents_answer(outcome: Result<i64, Refusal>) -> Answer {
+    match outcome {
         Ok(cents) => Answer::Number(cents),
         Err(refusal) => refusal_answer(refusal),
     }
 }
 
-pub fn done_answer(res: Result<(), Refusal>) -> Answer {
-    match res {
+pub fn done_answer(outcome: Result<(), Refusal>) -> Answer {
+    match outcome {
         Ok(()) => Answer::Number(0),
         Err(refusal) => refusal_answer(refusal),
     }

@@ -163,8 +163,8 @@ fn settle_by_store(setup: MonthSetup, book: &mut Book, script: Script, tally: &m
     }
 }
 
-fn declared_answer(res: Result<u32, Refusal>) -> Answer {
-    match res {
+fn declared_answer(outcome: Result<u32, Refusal>) -> Answer {
+    match outcome {
         Ok(number) => Answer::Number(i64::from(number)),
         Err(refusal) => refusal_answer(refusal),
     }

@@ -33,9 +33,9 @@ fn compare_sheet(sheet: &Sheet, plain: &PlainSheet, tally: &mut Tally) {
     }
 }
 
-fn compare_line(res: Result<Sheet, FileFault>, plain: &FileLine, tally: &mut Tally) {
+fn compare_line(outcome: Result<Sheet, FileFault>, plain: &FileLine, tally: &mut Tally) {
     tally.file_lines = tally.file_lines.saturating_add(1);
-    match res {
+    match outcome {
         Ok(sheet) => {
             tally.compare(Matter::FileLine, Answer::Number(0), plain.answer);
             compare_sheet(&sheet, &plain.sheet, tally);

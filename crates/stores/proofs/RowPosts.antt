@@ -2,7 +2,7 @@
 use Rattle.std.proofs.Common.{◌≡◌, ℕ, ◌+◌, ◌-◌, ◌*◌, ◌<◌, ◌≤◌, max, true, false, not, eqb, List, [], ◌∷◌, map, length, take, set, is_some, is_ok, Some, None, Ok, sym, refl, ap, ◌∙◌, ap₂, ⊎_elim, arith}
 use lib.Seq.{take-set-lt}
 use Rattle.std.proofs.lemmas.Nat.{mul-add-lt, mul-le}
-use Rattle.std.proofs.lemmas.List.{length-set, length_push, length-take-le, take_more_set}
+use Rattle.std.proofs.lemmas.List.{length_push, length-take-le, take_more_set}
 use Rattle.std.proofs.lemmas.Bool.{cond-true, cond-false, and_parts, and_from, or_from, eqb-true, eq-eqb, ne_eqb, cases_lt, cases_Bool, not-true, both_ways}
 use Rattle.tariff.specs.declared.reading.Sheet.{Sheet}
 use Rattle.tariff.specs.Ranges.{within, between_parts}
@@ -129,9 +129,6 @@ module _ (n days used : ℕ) (rows : List Row) (s : Sheet) (i : ℕ) (filled : u
 
   stored : (used' : ℕ) (rows' : List Row) → used' ≡ max used (i + 1) → rows' ≡ set rows i (row_of s) → take used' rows' ≡ put_row (row_of s) (take used rows)
   stored used' rows' more put = ap₂ take more put ∙ rows_put
-
-  pub length_stored : (rows' : List Row) → rows' ≡ set rows i (row_of s) → length rows' ≡ length rows
-  length_stored rows' put = ap length put ∙ length-set rows i (row_of s)
 
   pub rows_stay : (used' : ℕ) (rows' : List Row) → used' ≡ max used (i + 1) → rows' ≡ set rows i (row_of s) → rows_ok n days (take used' rows') ≡ true
   rows_stay used' rows' more put = ap (rows_ok n days) (stored used' rows' more put) ∙ stays

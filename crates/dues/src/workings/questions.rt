@@ -76,6 +76,7 @@ impl<R: Readings, H: HourRule> Workings<'_, '_, '_, R, H> {
     }
 
     // What is due for a charge of a point, between the parties on record on the last day, at the rate of that day.
+    #[tactic(auto, using(crate::proofs::Making::customer_there, crate::proofs::Making::transmitter_there))]
     pub(super) fn due(
         &self,
         system: (u64, u32, u32),

@@ -9,7 +9,7 @@ use Rattle.std.proofs.lemmas.Int.{to_z-of_z}
 use Rattle.text.specs.Texts.{text_of}
 use Rattle.text.proofs.Room.{room_more}
 use Rattle.listing.specs.Rows.{line_text}
-use Rattle.listing.proofs.Rows.{Sized, value_more, line_short}
+use Rattle.listing.proofs.Rows.{value_more, line_short}
 use Rattle.listing.proofs.row.line_text.Goals as goal
 
 -- the values as they are pushed, one behind another, and as a row
@@ -22,15 +22,6 @@ pub returns : goal.returns
 returns c =
     let l = c.args.line.now in
     let cents-fit : SFits w64 l.cents = search rules in
-    let sized : Sized l = record {
-      point = omega arith;
-      customer = omega arith;
-      transmitter = omega arith;
-      cents = cents-fit.sfits;
-      quantity = omega arith;
-      day = omega arith;
-      hour = omega arith;
-    } in
     let letters = room_more 256 [] c.letters.result.now _ _ c.new-text.ensures c.push_bytes.ensures ∙ ap (take 256) c.letters.ensures in
     let point = value_more _ _ _ _ _ letters c.push_value.ensures c.from.ensures in
     let charge = value_more _ _ _ _ _ point c.push_value-2.ensures (c.from-2.ensures ∙ c.number.ensures) in
@@ -42,4 +33,14 @@ returns c =
     let day = value_more _ _ _ _ _ quantity c.push_value-6.ensures c.from-5.ensures in
     let hour = value_more _ _ _ _ _ day c.push_value-7.ensures c.from-6.ensures in
     let whole = room_more 256 _ (10 ∷ []) _ _ hour c.push-2.ensures in
-    whole ∙ ap (take 256) (joined (letters_of l.statement) (decimal l.point) (decimal (charge_number l.charge)) (decimal l.customer.number) (decimal l.transmitter.number) (signed_decimal l.cents) (decimal l.quantity) (decimal l.day) (decimal l.hour)) ∙ take_all 256 (line_text l) (line_short l sized)
+    let row : text_of c.push-2.new.self ≡ take 256 (line_text l) =
+    whole ∙ ap (take 256) (joined (letters_of l.statement) (decimal l.point) (decimal (charge_number l.charge)) (decimal l.customer.number) (decimal l.transmitter.number) (signed_decimal l.cents) (decimal l.quantity) (decimal l.day) (decimal l.hour)) in
+    row ∙ take_all 256 (line_text l) (line_short l (record {
+      point = omega arith;
+      customer = omega arith;
+      transmitter = omega arith;
+      cents = cents-fit.sfits;
+      quantity = omega arith;
+      day = omega arith;
+      hour = omega arith;
+    }))

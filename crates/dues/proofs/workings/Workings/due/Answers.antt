@@ -1,20 +1,7 @@
-use Rattle.std.proofs.Common.{is_some, ap, ◌∙◌}
 use Rattle.dues.specs.Facts.{Facts}
 use Rattle.dues.specs.Workings.{facts_for}
-use Rattle.dues.proofs.Making.{customer_there, transmitter_there, due_whole}
+use Rattle.dues.proofs.Making.{due_whole}
 use Rattle.dues.proofs.workings.Workings.due.Goals as goal
-
-pub unwrap-requires : goal.unwrap-requires
-unwrap-requires g c =
-    let f : Facts = facts_for g.R.Readings.meaning g.H.HourRule.admits c.args.self.now in
-    ap is_some (c.on_record.ensures.value ∙ ap (f.customer_on c.args.point) c.last_day-last_day.ensures.0)
-    ∙ customer_there f c.args.system c.args.rates c.args.point c.args.charge c.requires.sound
-
-pub unwrap-requires-2 : goal.unwrap-requires-2
-unwrap-requires-2 g c =
-    let f : Facts = facts_for g.R.Readings.meaning g.H.HourRule.admits c.args.self.now in
-    ap is_some (c.on_record-2.ensures.value ∙ ap (f.transmitter_on c.args.point) c.last_day-last_day.ensures.0)
-    ∙ transmitter_there f c.args.system c.args.rates c.args.point c.args.charge c.requires.sound
 
 pub returns : goal.returns
 returns g c =

@@ -1,6 +1,8 @@
 use Rattle.std.proofs.Common.{set, refl, ap, arith}
+use Rattle.std.proofs.Math.ListN.{length-set}
+use Rattle.stores.specs.declared.row_store.Row.{Row}
 use Rattle.stores.specs.Rows.{row_of}
-use Rattle.stores.proofs.RowPosts.{row_small, row_room, length_stored, rows_stay, rows_after}
+use Rattle.stores.proofs.RowPosts.{row_small, row_room, rows_stay, rows_after}
 use Rattle.stores.proofs.row_store.store.RowStoreSheetStore.post.Goals as goal
 
 pub offset_bounds-self-i : goal.offset_bounds-self-i
@@ -22,8 +24,14 @@ pub invariant_of-self : goal.invariant_of-self
 invariant_of-self c =
     let s = c.args.self.now in
     let rows = set s.rows.now c.find-i.result (row_of c.args.sheet) in
-    let same = length_stored s.points s.days s.used s.rows.now c.args.sheet c.find-i.result s.filled s.fits s.ok (omega arith) c.in_ok-check_sheet.ensures c.find-i.ensures rows refl in
-    let room = row_room s.points s.days s.used s.rows.now c.args.sheet c.find-i.result s.filled s.fits s.ok (omega arith) c.in_ok-check_sheet.ensures c.find-i.ensures in record { limit = s.limit; month = s.month; fits = omega (arith, same, s.fits); filled = omega (arith, same, room, s.filled, c.max-self.ensures); ok = rows_stay s.points s.days s.used s.rows.now c.args.sheet c.find-i.result s.filled s.fits s.ok (omega arith) c.in_ok-check_sheet.ensures c.find-i.ensures c.max-self.result rows c.max-self.ensures refl }
+    let room = row_room s.points s.days s.used s.rows.now c.args.sheet c.find-i.result s.filled s.fits s.ok (omega arith) c.in_ok-check_sheet.ensures c.find-i.ensures in
+    record {
+      limit = s.limit;
+      month = s.month;
+      fits = omega (arith, length-set {A = Row}, s.fits);
+      filled = omega (arith, length-set {A = Row}, room, s.filled, c.max-self.ensures);
+      ok = rows_stay s.points s.days s.used s.rows.now c.args.sheet c.find-i.result s.filled s.fits s.ok (omega arith) c.in_ok-check_sheet.ensures c.find-i.ensures c.max-self.result rows c.max-self.ensures refl;
+    }
 
 pub returns : goal.returns
 returns c =
