@@ -1,24 +1,23 @@
 -- The points declared so far, and one more.
-use Rattle.std.proofs.Common.{◌≡◌, ℕ, ◌+◌, ◌-◌, ◌<◌, ◌≤◌, List, ◌++◌, length, get_or, take, set, Some, Ok, Option, sym, ap, ◌∙◌, arith}
-use Rattle.std.specs.Option.{option_to_list}
-use Rattle.std.proofs.lemmas.List.{length-take-le, take_more_set, get_or-take}
+use Rattle.std.proofs.Common.{◌≡◌, ℕ, ◌<◌, ◌≤◌, ◌==◌, false, List, [], ◌∷◌, ◌++◌, length, Some, None, Ok, Option, sym, ap, ◌∙◌, rules}
+use Rattle.std.specs.Option.{ok_or, option_to_list}
+use Rattle.std.proofs.lemmas.List.{length_push}
 use Rattle.std.proofs.lemmas.Bool.{cond-true, lt-ltb}
 use Rattle.tariff.specs.declared.points.PointKind.{PointKind}
-use Rattle.tariff.specs.declared.points.PointKind.TheVariants.{Network}
-use Rattle.tariff.specs.Ranges.{within_from}
-use Rattle.tariff.specs.Points.{kind_at, numbered, declared}
+use Rattle.tariff.specs.declared.refusal.Refusal.{Refusal}
+use Rattle.tariff.specs.Points.{numbered, declared}
 
-module _ (kinds : List PointKind) (count : ℕ) (some : count ≤ length kinds) where
-  count_is : length (take count kinds) ≡ count
-  count_is = length-take-le count kinds some
+pub below_full : (n : ℕ) → n ≤ 400 → (n == 400) ≡ false → n < 400
+below_full n most other = Prim.search rules
 
-  pub point_numbered : (kind : Option PointKind) (one : PointKind) → kind ≡ Some one → count < 400 → Ok (count + 1) ≡ declared (length (take count kinds)) kind
-  point_numbered kind one is few =
-      sym (cond-true _ _ _ (lt-ltb (length (take count kinds)) 400 (omega (arith, count_is))) ∙ ap (numbered (length (take count kinds))) is ∙ ap (λ n. Ok (n + 1)) count_is)
+some_of : (kind : Option PointKind) (e : Refusal) (one : PointKind) → Ok one ≡ ok_or kind e → kind ≡ Some one
+some_of (Some kind) e one is = cc
+some_of None e one is = cc
 
-  pub point_added : (kind : Option PointKind) (one : PointKind) → kind ≡ Some one → count < length kinds → take (count + 1) (set kinds count one) ≡ take count kinds ++ option_to_list kind
-  point_added kind one is room = take_more_set kinds count one room ∙ ap (λ k. take count kinds ++ option_to_list k) (sym is)
+module _ (kinds : List PointKind) (kind : Option PointKind) (e : Refusal) (one : PointKind) (made : Ok one ≡ ok_or kind e) where
+  pub point_added : kinds ++ one ∷ [] ≡ kinds ++ option_to_list kind
+  point_added = ap (λ k. kinds ++ option_to_list k) (sym (some_of kind e one made))
 
-  pub kind_read : (p : ℕ) → 1 ≤ p → p ≤ count → Some (get_or kinds (p - 1) Network) ≡ kind_at (take count kinds) p
-  kind_read p low high =
-      sym (cond-true _ _ _ (within_from (length (take count kinds)) p low (omega (arith, count_is))) ∙ ap Some (get_or-take count kinds (p - 1) Network (omega arith)))
+  pub point_numbered : length kinds < 400 → Ok (length (kinds ++ one ∷ [])) ≡ declared (length kinds) kind
+  point_numbered room =
+      ap Ok (length_push kinds one) ∙ sym (cond-true _ _ _ (lt-ltb (length kinds) 400 room) ∙ ap (numbered (length kinds)) (some_of kind e one made))

@@ -1,14 +1,16 @@
 -- The delivery points of a month.
-use Rattle.std.specs.Prelude.{ℕ, ◌+◌, ◌-◌, Bool, true, false, cond, not, ◌&&◌, ◌||◌, List, ◌++◌, length, take, Some, None, Ok, Err, Option, Result, ◌==◌, nat_lt, slice_index_or}
+use Rattle.std.specs.Prelude.{ℕ, ◌+◌, ◌-◌, Bool, true, false, cond, not, ◌&&◌, ◌||◌, List, ◌++◌, length, Some, None, Ok, Err, Option, Result, ◌==◌, nat_lt, slice_index_or}
 use Rattle.std.specs.Option.{option_to_list}
 use Rattle.tariff.specs.declared.charge.Charge.{Charge}
 use Rattle.tariff.specs.declared.charge.Charge.TheVariants as charge
+use Rattle.tariff.specs.declared.points.Declaration.{Declaration}
 use Rattle.tariff.specs.declared.points.PointKind.{PointKind}
 use Rattle.tariff.specs.declared.points.PointKind.TheVariants.{Network, Connection}
 use Rattle.tariff.specs.declared.points.PointList.{PointList}
 use Rattle.tariff.specs.declared.refusal.Refusal.{Refusal}
 use Rattle.tariff.specs.declared.refusal.Refusal.TheVariants.{NotAPointKind, TooManyPoints}
 use Rattle.tariff.specs.Ranges.{within}
+use Rattle.fixed_list.specs.Lists.{items_of}
 
 abbrev pub is_network : PointKind → Bool
 is_network Network = true
@@ -29,9 +31,13 @@ kind_from letter line transformation =
     cond (letter == 78 && (not line && not transformation)) (Some Network)
     (cond (letter == 67 && (line || transformation)) (Some (Connection line transformation)) None)
 
+-- the kind of a point as it is declared
+abbrev pub kind_declared : Declaration → Option PointKind
+kind_declared d = kind_from d.letter d.line d.transformation
+
 -- the points declared so far, in their order
 abbrev pub kinds_of : PointList → List PointKind
-kinds_of l = take l.count l.kinds
+kinds_of l = items_of l.kinds
 
 -- what the point p, counted from 1, is
 abbrev pub kind_at : List PointKind → ℕ → Option PointKind

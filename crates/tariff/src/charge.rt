@@ -2,11 +2,11 @@
 ghost use Rattle.std.specs.Prelude.{◌≡◌};
 ghost use Rattle.tariff.specs.Charges.{charge_number, credit_number};
 
-#[derive(Clone, Copy)]
+#[derive(Clone, Copy, PartialEq, Eq)]
 pub enum Charge {
-    Network,
-    Line,
-    Transformation,
+    Network = 650,
+    Line = 651,
+    Transformation = 652,
 }
 
 impl Charge {
@@ -14,11 +14,7 @@ impl Charge {
     pub fn number(self) -> u32
         ensures { result ≡ charge_number self }
     {
-        match self {
-            Charge::Network => 650,
-            Charge::Line => 651,
-            Charge::Transformation => 652,
-        }
+        self as u32
     }
 
     // The number under which the charge is credited to a transmitter.

@@ -12,7 +12,7 @@ pub const MAX_PARTY: u32 = 999_999_999;
 pub const MAX_RATE: u32 = 10_000_000;
 
 // A customer's or a transmitter's number.
-#[derive(Clone, Copy)]
+#[derive(Clone, Copy, Default, PartialEq, Eq)]
 pub struct PartyNumber {
     pub number: u32,
 }
@@ -21,12 +21,12 @@ impl PartyNumber {
     pub fn is_in_range(self) -> bool
         ensures { result ≡ party_in_range self }
     {
-        1 <= self.number && self.number <= MAX_PARTY
+        (1..=MAX_PARTY).contains(&self.number)
     }
 }
 
 // The rates of the three charges.
-#[derive(Clone, Copy)]
+#[derive(Clone, Copy, Default)]
 pub struct Rates {
     pub network: u32,
     pub line: u32,
@@ -52,7 +52,7 @@ impl Rates {
 }
 
 // Whether a connection point is in service, for all its charges.
-#[derive(Clone, Copy)]
+#[derive(Clone, Copy, Default)]
 pub struct Service {
     pub in_service: bool,
 }

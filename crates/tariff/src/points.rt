@@ -1,5 +1,5 @@
 // The delivery points of a month, numbered from 1 as they are declared.
-ghost use Rattle.std.specs.Prelude.{◌≡◌, ◌≤◌, length};
+use fixed_list::list::FixedList;
 
 mod questions;
 
@@ -13,10 +13,15 @@ pub enum PointKind {
     Connection { line: bool, transformation: bool },
 }
 
+// A point as it is declared: any letter, and the marks for line and transformation. Whoever takes it tests it.
+#[derive(Clone, Copy)]
+pub struct Declaration {
+    pub letter: u8,
+    pub line: bool,
+    pub transformation: bool,
+}
+
 #[derive(Clone, Copy)]
 pub struct PointList {
-    kinds: [PointKind; 400],
-    count: usize,
-    ghost few: { count ≤ 400 },
-    ghost full: { length kinds ≡ 400 },
+    kinds: FixedList<PointKind, 400>,
 }

@@ -20,8 +20,7 @@ impl Reading {
         ensures { result ≡ quantity_of self }
     {
         match self {
-            Reading::Withdrawal(quantity) => quantity,
-            Reading::Injection(quantity) => quantity,
+            Reading::Withdrawal(quantity) | Reading::Injection(quantity) => quantity,
         }
     }
 
@@ -60,10 +59,10 @@ fn first_too_large(readings: &[Reading; 24]) -> Option<u32>
 pub fn check_sheet(points: u32, days: u32, sheet: &Sheet) -> Result<(), Refusal>
     ensures { result ≡ judged points days sheet.now }
 {
-    if sheet.point < 1 || sheet.point > points {
+    if !(1..=points).contains(&sheet.point) {
         return Err(Refusal::UnknownPoint);
     }
-    if sheet.day < 1 || sheet.day > days {
+    if !(1..=days).contains(&sheet.day) {
         return Err(Refusal::UnknownDay);
     }
     match first_too_large(&sheet.readings) {

@@ -2,6 +2,8 @@
 ghost use Rattle.std.specs.Prelude.{◌≡◌};
 ghost use Rattle.tariff.specs.Refusals.{number_of};
 
+use std::fmt;
+
 #[derive(Clone, Copy)]
 pub enum Refusal {
     // The year is not from 2000 to 2099, or the month not from 1 to 12.
@@ -63,21 +65,54 @@ impl Refusal {
             Refusal::StoreDoesNotFit => 5,
             Refusal::UnknownPoint => 6,
             Refusal::UnknownDay => 7,
-            Refusal::QuantityTooLarge { hour: _ } => 8,
+            Refusal::QuantityTooLarge { .. } => 8,
             Refusal::DayOutOfRange => 9,
             Refusal::PartyOutOfRange => 10,
             Refusal::RateTooHigh => 11,
             Refusal::HistoryFull => 12,
             Refusal::ServiceOfNetworkPoint => 13,
             Refusal::OutOfTurn => 14,
-            Refusal::SheetMissing { point: _, day: _ } => 15,
-            Refusal::NothingOnRecord { point: _ } => 16,
+            Refusal::SheetMissing { .. } => 15,
+            Refusal::NothingOnRecord { .. } => 16,
             Refusal::Unsound => 17,
             Refusal::LedgerFull => 18,
             Refusal::IncrementTooLarge => 19,
-            Refusal::NotTwentySixValues { line: _ } => 20,
-            Refusal::MalformedValue { place: _, line: _ } => 21,
+            Refusal::NotTwentySixValues { .. } => 20,
+            Refusal::MalformedValue { .. } => 21,
             Refusal::TextTooShort => 22,
         }
+    }
+}
+
+// The cause in words.
+impl fmt::Display for Refusal {
+    fn fmt<W: fmt::Write>(&self, f: &mut fmt::Formatter<W>) -> fmt::Result {
+        f.write_str(match *self {
+            Refusal::NoSuchMonth => "the year is 2000 to 2099 and the month 1 to 12",
+            Refusal::MarkOutsideMonth => "a day is marked that the month lacks",
+            Refusal::NotAPointKind => "a point is N, or C with L, T or LT",
+            Refusal::TooManyPoints => "a month has at most 400 points",
+            Refusal::StoreDoesNotFit => "the store does not fit the month",
+            Refusal::UnknownPoint => "the point is not declared",
+            Refusal::UnknownDay => "the day is not in the month",
+            Refusal::QuantityTooLarge { .. } => "the quantity is above 99999999",
+            Refusal::DayOutOfRange => "the from-day is after 31 December 2099",
+            Refusal::PartyOutOfRange => "a party number is 1 to 999999999",
+            Refusal::RateTooHigh => "a rate is at most 10000000",
+            Refusal::HistoryFull => "no place is left for a new entry",
+            Refusal::ServiceOfNetworkPoint => "a network point has no service record",
+            Refusal::OutOfTurn => "the statement type is not in turn",
+            Refusal::SheetMissing { .. } => "the sheet is missing",
+            Refusal::NothingOnRecord { point: 0 } => "no rates are on record on the last day",
+            Refusal::NothingOnRecord { .. } => {
+                "the point has no customer or no transmitter on record on the last day"
+            }
+            Refusal::Unsound => "a history or the ledger is not sound",
+            Refusal::LedgerFull => "no place is left for the lines",
+            Refusal::IncrementTooLarge => "an increment is beyond the line limit",
+            Refusal::NotTwentySixValues { .. } => "the line has not 26 values",
+            Refusal::MalformedValue { .. } => "the value is malformed",
+            Refusal::TextTooShort => "the text memory is too short",
+        })
     }
 }

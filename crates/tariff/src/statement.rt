@@ -3,7 +3,7 @@ ghost use Rattle.std.specs.Prelude.{◌≡◌};
 ghost use Rattle.tariff.specs.Statements.{rank_of, in_turn, letters_of};
 
 // The types by rank: preliminary, final, six resettlements, and the last one.
-#[derive(Clone, Copy)]
+#[derive(Clone, Copy, PartialEq, Eq, PartialOrd, Ord)]
 pub enum Statement {
     P,
     F,
@@ -20,17 +20,7 @@ impl Statement {
     pub fn rank(self) -> u32
         ensures { result ≡ rank_of self }
     {
-        match self {
-            Statement::P => 0,
-            Statement::F => 1,
-            Statement::R1 => 2,
-            Statement::R2 => 3,
-            Statement::R3 => 4,
-            Statement::R4 => 5,
-            Statement::R5 => 6,
-            Statement::R6 => 7,
-            Statement::RF => 8,
-        }
+        self as u32
     }
 
     // The letters by which the type is known.
@@ -59,7 +49,7 @@ impl Statement {
             (None, _) => false,
             (Some(Statement::P), Statement::F) => true,
             (Some(Statement::P), _) => false,
-            (Some(issued), asked) => issued.rank() < asked.rank(),
+            (Some(issued), asked) => issued < asked,
         }
     }
 }
