@@ -23,11 +23,8 @@ mark_after mask n word large none =
     not_below : (j : ℕ) → suc j ≤ n → mask < 2 ^ suc j → ⊥
     not_below j ge small = let le : 2 ^ suc j ≤ 2 ^ n = pow_mono ge in omega arith
 
-fits_means_no_mark : (mask n : ℕ) → mask < 2 ^ 32 → FitsMeansNoMark mask n
+pub fits_means_no_mark : (mask n : ℕ) → mask < 2 ^ 32 → FitsMeansNoMark mask n
 fits_means_no_mark mask n word = (
   λ fits. none_after mask n (ltb-true mask (2 ^ n) fits),
   λ none. ⊎_elim (λ lt. lt-ltb mask (2 ^ n) lt) (λ ge. absurd (mark_after mask n word ge none)) (cases_lt mask (2 ^ n)),
 )
-
-pub marks_are_days : (holidays summer n : ℕ) → holidays < 2 ^ 32 → summer < 2 ^ 32 → FitsMeansNoMark holidays n × FitsMeansNoMark summer n
-marks_are_days holidays summer n p q = (fits_means_no_mark holidays n p, fits_means_no_mark summer n q)

@@ -1,5 +1,8 @@
 -- A mask that is made day by day.
-use Rattle.std.proofs.Common.{◌≡◌, ℕ, ◌+◌, ◌-◌, ◌/◌, ◌%◌, ◌^◌, ◌<◌, ◌≤◌, Bool, true, false, cond, eqb, sym, ap, ◌∙◌, ⊎_elim, add-zero, mod-eq_of_lt, pow-suc, add-one, arith, pow_pos}
+use Rattle.std.proofs.Common.{◌≡◌, ℕ, ◌+◌, ◌-◌, ◌/◌, ◌%◌, ◌^◌, ◌<◌, ◌≤◌, Bool, true, false, cond, eqb, sym, ap, ◌∙◌, ⊎_elim, add-zero, mod-eq_of_lt, pow-suc, add-one, arith, pow_pos, ◌*◌, subst}
+use Rattle.std.proofs.Math.Nat.{one-mul}
+use lib.Bits.{bit_or}
+use Rattle.std.proofs.lemmas.Nat.{one_shl, or_comm, or_shifted}
 use native.Mathlib.Nat.{div-eq_of_lt, div-eq_of_lt-le, add-mod_right}
 use Rattle.std.proofs.lemmas.Bool.{cases_lt}
 use Rattle.calendar.specs.Marks.{marked, MarksJust}
@@ -30,7 +33,7 @@ module _ (k m : ℕ) (small : m < 2 ^ k) where
   sum_fits true = omega (arith, power)
   sum_fits false = omega (arith, power)
 
-  pub day_more : (picked : ℕ → Bool) (b : Bool) → b ≡ picked (k + 1) → ((d : ℕ) → 1 ≤ d → d ≤ k → marked m d ≡ picked d) → MarksJust (k + 1) picked (m + cond b (2 ^ k) 0)
+  day_more : (picked : ℕ → Bool) (b : Bool) → b ≡ picked (k + 1) → ((d : ℕ) → 1 ≤ d → d ≤ k → marked m d ≡ picked d) → MarksJust (k + 1) picked (m + cond b (2 ^ k) 0)
   day_more picked b is before = record { fits = sum_fits b; days = λ d low high. ⊎_elim (earlier d low) (here d low high) (cases_lt d (k + 1)) }
     where
       earlier : (d : ℕ) → 1 ≤ d → d < k + 1 → marked (m + cond b (2 ^ k) 0) d ≡ picked d
@@ -42,3 +45,24 @@ module _ (k m : ℕ) (small : m < 2 ^ k) where
           let last : d ≡ k + 1 = omega arith in
           let place : d - 1 ≡ k = omega arith in
           ap (λ j. eqb (bit (m + cond b (2 ^ k) 0) j) 1) place ∙ top_part b ∙ is ∙ ap picked (sym last)
+
+pub marks_same : {picked : ℕ → Bool} {m : ℕ} (n k : ℕ) → n ≡ k → MarksJust k picked m → MarksJust n picked m
+marks_same {picked} {m} n k is = subst (λ j. MarksJust j picked m) (sym is)
+
+-- after a day is looked at: its bit is set where it is picked
+module _ {picked : ℕ → Bool} {d m : ℕ} (n : ℕ) (is : n ≡ d) (low : 1 ≤ d) (high : d ≤ 32) (so_far : MarksJust (d - 1) picked m) where
+  next : n ≡ d - 1 + 1
+  next = omega arith
+
+  here : d ≡ d - 1 + 1
+  here = omega arith
+
+  pub day_marked : true ≡ picked d → MarksJust n picked (bit_or m ((1 * 2 ^ (d - 1)) % 2 ^ 32))
+  day_marked picks =
+      let sum : bit_or m ((1 * 2 ^ (d - 1)) % 2 ^ 32) ≡ m + 2 ^ (d - 1) =
+      ap (bit_or m) (one_shl (d - 1) 32 (omega arith)) ∙ or_comm m (2 ^ (d - 1)) ∙ rw one-mul at (or_shifted 1 (d - 1) m so_far.fits) ∙ omega arith in
+      rw sum (marks_same n (d - 1 + 1) next (day_more (d - 1) m so_far.fits picked true (picks ∙ ap picked here) so_far.days))
+
+  pub day_unmarked : false ≡ picked d → MarksJust n picked m
+  day_unmarked skips =
+      rw add-zero at (marks_same n (d - 1 + 1) next (day_more (d - 1) m so_far.fits picked false (skips ∙ ap picked here) so_far.days))

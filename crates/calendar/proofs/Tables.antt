@@ -1,5 +1,5 @@
 -- Rules of tables, each shown by one test that is computed at every entry.
-use Rattle.std.proofs.Common.{◌≡◌, ℕ, zero, suc, ◌+◌, ◌-◌, ◌*◌, ◌/◌, ◌<◌, ◌≤◌, Bool, true, false, cond, ◌&&◌, eqb, ltb, List, [], ◌∷◌, get_or, sym, refl, subst, ⊎_elim, arith}
+use Rattle.std.proofs.Common.{◌≡◌, ℕ, zero, suc, ◌+◌, ◌-◌, ◌*◌, ◌/◌, ◌<◌, ◌≤◌, Bool, true, false, cond, ◌&&◌, eqb, ltb, sym, refl, subst, ⊎_elim, arith}
 use Rattle.std.proofs.lemmas.Bool.Decides.{Decides-eqb, Decides-ltb, Decides-below_and}
 use Rattle.std.proofs.lemmas.Bool.{cases_eq}
 use Rattle.calendar.specs.Dates.{is_leap, length_of, days_in, days_of, days_before_year, month_start}
@@ -15,13 +15,6 @@ same_below f g n =
 pub bound_below : (f : ℕ → ℕ) (m n : ℕ) → all_below (λ k. ltb (f k) m) n ≡ true → (k : ℕ) → k < n → f k < m
 bound_below f m n =
     (Decides-below_and (λ k. ltb (f k) m) (λ k. f k < m) (all_below (λ k. ltb (f k) m)) (λ k. Decides-ltb (f k) m) refl (λ _. refl) n).0
-
-abbrev pub before : List ℕ
-before = 0 ∷ 31 ∷ 59 ∷ 90 ∷ 120 ∷ 151 ∷ 181 ∷ 212 ∷ 243 ∷ 273 ∷ 304 ∷ 334 ∷ []
-
-pub months_before : (leap : Bool) (k : ℕ) → k < 12 → get_or before k 0 + cond (leap && ltb 1 k) 1 0 ≡ days_of leap k
-months_before true = same_below (λ k. get_or before k 0 + cond (ltb 1 k) 1 0) (days_of true) 12 refl
-months_before false = same_below (λ k. get_or before k 0 + 0) (days_of false) 12 refl
 
 pub years_before : (n : ℕ) → n < 100 → 365 * n + (n + 3) / 4 ≡ days_before_year n
 years_before = same_below (λ n. 365 * n + (n + 3) / 4) days_before_year 100 refl

@@ -1,8 +1,9 @@
 // Masks of days: bit 0 for day 1.
-ghost use Rattle.std.specs.Prelude.{◌≡◌, ℕ, ◌^◌, ◌<◌, min, Bool, if◌then◌else◌};
-ghost use Rattle.calendar.specs.Marks.{MarksJust};
+ghost use Rattle.std.specs.Prelude.{◌≡◌, ℕ, ◌&&◌, min, Bool};
+ghost use Rattle.tariff.specs.Ranges.{within};
+ghost use Rattle.calendar.specs.Marks.{marked, MarksJust};
 
-// A choice of days.
+// A choice of days. It is a trait, since of a closure a caller would have to show that it may be called for any day.
 pub trait DayRule {
     ghost picks: { Self → ℕ → Bool };
 
@@ -10,21 +11,23 @@ pub trait DayRule {
         ensures { result ≡ picks self.now day };
 }
 
-fn bit_if(picked: bool, k: u32) -> u32
-    requires { k < 32 }
-    ensures { result ≡ (if picked then 2 ^ k else 0) }
+// Whether a mask marks a day. It has bits for the days 1 to 32.
+pub fn is_marked(mask: u32, day: u32) -> bool
+    ensures { result ≡ (within 32 day && marked mask day) }
 {
-    if picked { 1 << k } else { 0 }
+    (1..=32).contains(&day) && mask >> (day - 1) & 1 == 1
 }
 
 // A mask that marks just the days from 1 to `days` which are picked; at most 32 days are looked at, each once.
+#[tactic(auto, using(crate::proofs::Picked::none_marked))]
 pub fn mask_of<D: DayRule>(rule: &D, days: u32) -> u32
     ensures { MarksJust (min days 32) (D.picks rule.now) result }
 {
-    let count = days.min(32);
     let mut mask = 0;
-    for k in 0..count {
-        mask += bit_if(rule.picks_day(k + 1), k);
+    for day in 1..=days.min(32) {
+        if rule.picks_day(day) {
+            mask |= 1 << (day - 1);
+        }
     }
     mask
 }

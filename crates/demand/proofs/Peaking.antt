@@ -1,5 +1,5 @@
 -- The search for the peak: its steps, what it finds, and that nothing else is the peak.
-use Rattle.std.proofs.Common.{◌≡◌, ℕ, zero, suc, ◌+◌, ◌-◌, ◌*◌, ◌<◌, ◌≤◌, Bool, true, false, cond, leb, ◌⊎◌, sym, refl, ap, ◌∙◌, subst, ap₂, inl, inr, ⊎_elim, add-zero, add-one, arith}
+use Rattle.std.proofs.Common.{◌≡◌, ℕ, zero, suc, ◌+◌, ◌-◌, ◌*◌, ◌<◌, ◌≤◌, Bool, true, false, cond, leb, ◌⊎◌, sym, refl, ap, ◌∙◌, subst, ap₂, inl, inr, ⊎_elim, add-zero, arith}
 use Rattle.std.proofs.lemmas.Bool.{cases_lt, leb-true, leb-false, both_ways}
 use Rattle.hours.specs.Hours.{Inside}
 use Rattle.demand.specs.Peaks.{Triple, taken, best_of_day, peak_over, NotAfter, IsPeak, Alike}
@@ -15,9 +15,12 @@ module _ (A : ℕ → ℕ → Bool) (q : ℕ → ℕ → ℕ) where
       let next : h + 1 - 1 ≡ suc (h - 1) = omega arith in
       ap (λ k. taken (A d k) (q d k) d k (best_of_day A q best d (h - 1))) here ∙ hour_more best d (h - 1) ∙ ap (best_of_day A q best d) (sym next)
 
-  pub peak_more : (d : ℕ) → best_of_day A q (peak_over A q d) (d + 1) 24 ≡ peak_over A q (d + 1)
+  pub peak_more : {d : ℕ} (n : ℕ) → n ≡ d → 1 ≤ d → best_of_day A q (peak_over A q (d - 1)) d 24 ≡ peak_over A q n
   unfolding peak_over
-  peak_more d = rw add-one
+  peak_more {d} n is low =
+      let here : d ≡ suc (d - 1) = omega arith in
+      let next : n ≡ suc (d - 1) = omega arith in
+      ap (λ k. best_of_day A q (peak_over A q (d - 1)) k 24) here ∙ sym (ap (peak_over A q) next)
 
 -- ---- what is found
 

@@ -15,5 +15,5 @@ pub fn charge(determinant: u64, rate: u32) -> Option<u64>
     if determinant > MAX_DETERMINANT || rate > MAX_RATE {
         return None;
     }
-    Some((determinant * rate as u64 + 5_000_000) / 10_000_000)
+    Some((determinant * u64::from(rate) + 5_000_000) / 10_000_000)
 }

@@ -8,7 +8,7 @@ ghost use Rattle.demand.specs.Peaks.{peak_over, IsPeak};
 ghost use Rattle.demand.specs.Charges.{network_of};
 ghost use Rattle.demand.specs.Determinants.{system_peak_of, network_determinant, connection_determinant};
 
-use crate::search::peak;
+use crate::search::{Peak, peak};
 use crate::views::{PointDemand, SystemDemand};
 use calendar::month::Calendar;
 use hours::rules::{HourRule, WholeMonth};
@@ -21,7 +21,7 @@ pub fn system_peak<'a, R: Readings>(
     points: &'a PointList,
     calendar: &Calendar,
     readings: &'a R,
-) -> (u64, u32, u32)
+) -> Peak
     ensures value { result ≡ system_peak_of (kinds_of points.now) (length_in calendar.now) (R.meaning readings.now).sheets }
     ensures is_peak { IsPeak (in_month (length_in calendar.now)) (λ d h. network_demand (kinds_of points.now) (R.meaning readings.now).sheets d h (length (kinds_of points.now))) (length_in calendar.now) result }
 {
@@ -33,12 +33,7 @@ pub fn system_peak<'a, R: Readings>(
 }
 
 // The greatest demand of one point under an hour rule.
-fn own_peak<R: Readings, H: HourRule>(
-    readings: &R,
-    point: u32,
-    rule: &H,
-    days: u32,
-) -> (u64, u32, u32)
+fn own_peak<R: Readings, H: HourRule>(readings: &R, point: u32, rule: &H, days: u32) -> Peak
     ensures value { result ≡ peak_over (H.admits rule.now) (demand_at (R.meaning readings.now).sheets point) days }
     ensures small { result.0 ≤ 99999999 }
 {
@@ -51,9 +46,9 @@ pub struct NetworkDemand {
     // C, the demand at the system peak.
     pub coincident: u64,
     // Q, the greatest demand in the peak period, with its day and hour.
-    pub own: (u64, u32, u32),
+    pub own: Peak,
     // 100 × C at the system peak, or 85 × Q at its own hour if that is more.
-    pub determinant: (u64, u32, u32),
+    pub determinant: Peak,
 }
 
 // The billing demand of a network point, where the system peak is known.
@@ -61,7 +56,7 @@ pub fn network_demand<R: Readings, H: HourRule>(
     readings: &R,
     peak_period: &H,
     days: u32,
-    system: (u64, u32, u32),
+    system: Peak,
     point: u32,
 ) -> NetworkDemand
     ensures coincident { result.coincident ≡ demand_at (R.meaning readings.now).sheets point system.1 system.2 }
@@ -79,11 +74,7 @@ pub fn network_demand<R: Readings, H: HourRule>(
 }
 
 // The determinant of a network point from C and Q.
-fn network_determinant(
-    system: (u64, u32, u32),
-    coincident: u64,
-    own: (u64, u32, u32),
-) -> (u64, u32, u32)
+fn network_determinant(system: Peak, coincident: u64, own: Peak) -> Peak
     requires { (coincident ≤ 99999999) × (own.0 ≤ 99999999) }
     ensures value { result ≡ network_of system coincident own }
     ensures small { result.0 ≤ 9999999900 }
@@ -103,7 +94,7 @@ pub fn connection_demand<R: Readings, H: HourRule>(
     service: &H,
     days: u32,
     point: u32,
-) -> (u64, u32, u32)
+) -> Peak
     ensures value { result ≡ connection_determinant (R.meaning readings.now).sheets (H.admits service.now) days point }
     ensures small { result.0 ≤ 9999999900 }
 {

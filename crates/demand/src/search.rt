@@ -5,6 +5,9 @@ ghost use Rattle.demand.specs.Peaks.{Triple, taken, best_of_day, peak_over, IsPe
 
 use hours::rules::HourRule;
 
+// A quantity, with its day and its hour.
+pub type Peak = (u64, u32, u32);
+
 // A quantity for each day and hour.
 pub trait HourlyQuantity {
     ghost quantity: { Self → ℕ → ℕ → ℕ };
@@ -19,8 +22,8 @@ fn with_hour<Q: HourlyQuantity, H: HourRule>(
     rule: &H,
     day: u32,
     hour: u32,
-    best: (u64, u32, u32),
-) -> (u64, u32, u32)
+    best: Peak,
+) -> Peak
     ensures { result ≡ taken (H.admits rule.now day hour) (Q.quantity quantities.now day hour) day hour best }
 {
     if !rule.admits_hour(day, hour) {
@@ -39,8 +42,8 @@ fn peak_of_day<Q: HourlyQuantity, H: HourRule>(
     quantities: &Q,
     rule: &H,
     day: u32,
-    before: (u64, u32, u32),
-) -> (u64, u32, u32)
+    before: Peak,
+) -> Peak
     ensures { result ≡ best_of_day (H.admits rule.now) (Q.quantity quantities.now) before day 24 }
 {
     let mut best = before;
@@ -50,9 +53,20 @@ fn peak_of_day<Q: HourlyQuantity, H: HourRule>(
     best
 }
 
+// The best of days 1 to `days`.
+fn best_of_days<Q: HourlyQuantity, H: HourRule>(quantities: &Q, rule: &H, days: u32) -> Peak
+    ensures { result ≡ peak_over (H.admits rule.now) (Q.quantity quantities.now) days }
+{
+    let mut best = (0, 0, 0);
+    for day in 1..=days {
+        best = peak_of_day(quantities, rule, day, best);
+    }
+    best
+}
+
 // The greatest quantity over the admitted hours of days 1 to `days`, with its day and its hour; among equals the latest;
 // over no hours 0, day 0, hour 0.
-pub fn peak<Q: HourlyQuantity, H: HourRule>(quantities: &Q, rule: &H, days: u32) -> (u64, u32, u32)
+pub fn peak<Q: HourlyQuantity, H: HourRule>(quantities: &Q, rule: &H, days: u32) -> Peak
     ensures value { result ≡ peak_over (H.admits rule.now) (Q.quantity quantities.now) days }
     ensures is_peak { IsPeak (H.admits rule.now) (Q.quantity quantities.now) days result }
     ensures no_other { (s : Triple) → IsPeak (H.admits rule.now) (Q.quantity quantities.now) days s → s ≡ result }
@@ -60,9 +74,5 @@ pub fn peak<Q: HourlyQuantity, H: HourRule>(quantities: &Q, rule: &H, days: u32)
     ensures whole { H.span rule.now ≤ days → (d h : ℕ) → H.admits rule.now d h ≡ true → Q.quantity quantities.now d h ≤ result.0 }
     ensures by_answers { (B : ℕ → ℕ → Bool) (p : ℕ → ℕ → ℕ) → Alike days (H.admits rule.now) (Q.quantity quantities.now) B p → result ≡ peak_over B p days }
 {
-    let mut best = (0, 0, 0);
-    for before in 0..days {
-        best = peak_of_day(quantities, rule, before + 1, best);
-    }
-    best
+    best_of_days(quantities, rule, days)
 }

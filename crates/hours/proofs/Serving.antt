@@ -1,7 +1,5 @@
 -- The mask of the days in service, as an hour rule.
-use Rattle.std.proofs.Common.{◌≡◌, ℕ, ◌+◌, ◌-◌, ◌/◌, ◌^◌, ◌≤◌, min, Bool, true, false, ◌&&◌, eqb, sym, refl, ap, ◌∙◌, arith}
-use lib.Bits.{bit_and, and_mask}
-use Rattle.std.proofs.lemmas.Bool.{and_from}
+use Rattle.std.proofs.Common.{◌≡◌, ℕ, ◌+◌, ◌-◌, ◌≤◌, min, Bool, true, false, ◌&&◌, refl, ap, ◌∙◌, arith}
 use Rattle.tariff.specs.Ranges.{within, within_from}
 use Rattle.calendar.specs.Marks.{marked, MarksJust}
 use Rattle.hours.specs.Hours.{in_month, month_within, is_in_service}
@@ -18,8 +16,3 @@ marks_admit served days n first mask few is marks d h =
     (λ inside.
     let p = month_within days d h inside in
     marks.days d (omega arith) (omega arith) ∙ ap (λ b. b && served (first + (d - 1))) (within_from days d (omega arith) (omega arith)))
-
-pub mark_read : (days mask d h : ℕ) → 1 ≤ d → d ≤ days → 1 ≤ h → h ≤ 24 → eqb (bit_and (mask / 2 ^ (d - 1)) 1) 1 ≡ (in_month days d h && marked mask d)
-mark_read days mask d h p q r t =
-    ap (λ b. eqb b 1) (and_mask (mask / 2 ^ (d - 1)) 1)
-    ∙ sym (ap (λ b. b && marked mask d) (and_from (within days d) (within 24 h) (within_from days d p q) (within_from 24 h r t)))

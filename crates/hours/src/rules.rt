@@ -12,11 +12,18 @@ pub trait HourRule {
 
     ghost admits: { Self → ℕ → ℕ → Bool };
 
-    // No hour outside the month is admitted.
-    ghost within: { (s : Self) (d h : ℕ) → admits s d h ≡ true → Inside (span s) d h };
-
     fn admits_hour(&self, day: u32, hour: u32) -> bool
         ensures { result ≡ admits self.now day hour };
+
+    // No hour outside the month is admitted.
+    ghost within: { (s : Self) (d h : ℕ) → admits s d h ≡ true → Inside (span s) d h };
+}
+
+// Whether day and hour are in a month of so many days.
+pub(crate) fn is_in_month(days: u32, day: u32, hour: u32) -> bool
+    ensures { result ≡ in_month days day hour }
+{
+    (1..=days).contains(&day) && (1..=24).contains(&hour)
 }
 
 // The hours 8 to 19 of working days, and 7 to 18 of those with a summer mark.
@@ -36,11 +43,12 @@ impl HourRule for PeakPeriod<'_> {
         if !self.calendar.is_working_day(day) {
             return false;
         }
-        if self.calendar.is_summer(day) {
-            7 <= hour && hour <= 18
+        let hours = if self.calendar.is_summer(day) {
+            7..=18
         } else {
-            8 <= hour && hour <= 19
-        }
+            8..=19
+        };
+        hours.contains(&hour)
     }
 }
 
@@ -58,6 +66,6 @@ impl HourRule for WholeMonth<'_> {
     ghost within = { λ p d h. month_within (length_in p.calendar.now) d h };
 
     fn admits_hour(&self, day: u32, hour: u32) -> bool {
-        1 <= day && day <= self.calendar.days() && 1 <= hour && hour <= 24
+        is_in_month(self.calendar.days(), day, hour)
     }
 }

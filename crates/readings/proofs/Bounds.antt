@@ -9,7 +9,7 @@ use Rattle.tariff.specs.Readings.{quantity_of, demand_of, Allowed}
 use Rattle.readings.specs.Meaning.{Meaning, Sound, hour_of}
 use Rattle.readings.specs.Demands.{demand_if, demand_at}
 
-demand_le : (r : Reading) → demand_of r ≤ quantity_of r
+pub demand_le : (r : Reading) → demand_of r ≤ quantity_of r
 demand_le (Withdrawal q) = omega arith
 demand_le (Injection q) = omega arith
 

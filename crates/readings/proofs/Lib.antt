@@ -1,4 +1,5 @@
 pub mod Bounds
 pub mod Firsts
+pub mod Found
 pub mod Missing
 pub mod Sums

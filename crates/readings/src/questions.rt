@@ -12,12 +12,9 @@ use tariff::refusal::Refusal;
 fn first_missing_day<R: Readings>(readings: &R, point: u32, days: u32) -> Option<Refusal>
     ensures { result ≡ first_of (no_sheet (R.meaning readings.now).sheets point) days }
 {
-    for k in 0..days {
-        if !readings.has_sheet(point, k + 1) {
-            return Some(Refusal::SheetMissing { point, day: k + 1 });
-        }
-    }
-    None
+    (1..=days).find_map(|day| {
+        (!readings.has_sheet(point, day)).then_some(Refusal::SheetMissing { point, day })
+    })
 }
 
 // The first of the points 1 to `points`, and its first day, without a sheet.
@@ -25,12 +22,7 @@ pub fn first_missing<R: Readings>(readings: &R, points: u32, days: u32) -> Optio
     ensures value { result ≡ first_missing (R.meaning readings.now).sheets points days }
     ensures first { FirstMissing (R.meaning readings.now).sheets points days result }
 {
-    for k in 0..points {
-        if let Some(refusal) = first_missing_day(readings, k + 1, days) {
-            return Some(refusal);
-        }
-    }
-    None
+    (1..=points).find_map(|point| first_missing_day(readings, point, days))
 }
 
 // The demand of a point in an hour: nothing where there is no reading.
@@ -38,10 +30,9 @@ pub fn demand_at<R: Readings>(readings: &R, point: u32, day: u32, hour: u32) -> 
     ensures value { result ≡ demand_at (R.meaning readings.now).sheets point day hour }
     ensures small { result ≤ 99999999 }
 {
-    match readings.reading(point, day, hour) {
-        Some(reading) => reading.demand(),
-        None => 0,
-    }
+    readings
+        .reading(point, day, hour)
+        .map_or(0, |reading| reading.demand())
 }
 
 // What a point adds to the demand of the network points. The readings of other points are not asked for.
@@ -54,9 +45,10 @@ fn added_demand<R: Readings>(
 ) -> u32
     ensures { result ≡ network_demand_of (kinds_of points.now) (R.meaning readings.now).sheets day hour point }
 {
-    match points.kind(point) {
-        Some(kind) if kind.is_network() => demand_at(readings, point, day, hour),
-        _ => 0,
+    if points.kind(point).is_some_and(|kind| kind.is_network()) {
+        demand_at(readings, point, day, hour)
+    } else {
+        0
     }
 }
 
@@ -64,10 +56,7 @@ fn added_demand<R: Readings>(
 pub fn network_demand_at<R: Readings>(readings: &R, points: &PointList, day: u32, hour: u32) -> u64
     ensures { result ≡ network_demand (kinds_of points.now) (R.meaning readings.now).sheets day hour (length (kinds_of points.now)) }
 {
-    let count = points.count();
-    let mut total = 0;
-    for k in 0..count {
-        total += u64::from(added_demand(readings, points, k + 1, day, hour));
-    }
-    total
+    (1..=points.count())
+        .map(|point| u64::from(added_demand(readings, points, point, day, hour)))
+        .sum()
 }

@@ -8,9 +8,6 @@ use tariff::refusal::Refusal;
 pub trait Readings {
     ghost meaning: { Self → Meaning };
 
-    // No sheet lies outside the points and days, and each has 24 readings within the limit.
-    ghost sound: { (s : Self) → Sound (meaning s) };
-
     fn points(&self) -> u32
         ensures { result ≡ (meaning self.now).points };
 
@@ -24,6 +21,9 @@ pub trait Readings {
     // The reading of an hour from 1 to 24, where there is a sheet.
     fn reading(&self, point: u32, day: u32, hour: u32) -> Option<Reading>
         ensures { result ≡ reading_at (meaning self.now) point day hour };
+
+    // No sheet lies outside the points and days, and each has 24 readings within the limit.
+    ghost sound: { (s : Self) → Sound (meaning s) };
 }
 
 pub trait SheetStore: Readings {

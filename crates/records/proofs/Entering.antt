@@ -9,18 +9,15 @@ use Rattle.tariff.specs.declared.refusal.Refusal.TheVariants.{HistoryFull}
 use Rattle.records.specs.declared.dated.Dated.{Dated}
 use Rattle.records.specs.Books.{precedes, stands_at, place, put}
 use Rattle.records.specs.Histories.{shelf}
-use Rattle.records.specs.Entering.{has_place, with_entry, entered_shelf, entry_answer}
+use Rattle.records.specs.Entering.{has_place, with_entry, entered_shelf, count_answer}
 
 cond_le : (b : Bool) (p n : ℕ) → p ≤ n → cond b (suc p) 0 ≤ suc n
 cond_le true p n h = omega arith
 cond_le false p n h = omega arith
 
-same_shelf : {T : Type 0} {xs ys : List (Dated T)} {j k : ℕ} → xs ≡ ys → j ≡ k → shelf xs j ≡ shelf ys k
-same_shelf p q = λ i. record { memory = p i; used = q i }
-
--- the memory after an entry in the first u entries of m, how many then are in use, and the answer
-abbrev pub Gives : {T : Type 0} → List (Dated T) → ℕ → Dated T → List (Dated T) → ℕ → Result (Unit {0}) Refusal → Type 0
-Gives m u e after n r = (r ≡ entry_answer (shelf m u) e) × (shelf after n ≡ entered_shelf (shelf m u) e)
+-- the memory after an entry in the first u entries of m, and the answer
+abbrev pub Gives : {T : Type 0} → List (Dated T) → ℕ → Dated T → List (Dated T) → Result ℕ Refusal → Type 0
+Gives m u e after r = (r ≡ count_answer (shelf m u) e) × (after ≡ (entered_shelf (shelf m u) e).memory)
 
 module _ {T : Type 0} where
   pub place_le : (xs : List (Dated T)) (s d : ℕ) → place xs s d ≤ length xs
@@ -94,30 +91,30 @@ module _ {T : Type 0} (m : List (Dated T)) (u : ℕ) (e : Dated T) (p : ℕ) (fi
   new_last h = rw found (put_pushes (take u m) e (omega (arith, found, len)))
 
   placed : (after ys : List (Dated T)) (n : ℕ) → put (take u m) e ≡ ys → length ys ≡ n → n ≤ length m → after ≡ ys ++ drop n m →
-      Gives m u e after n (Ok tt)
+      Gives m u e after (Ok n)
   placed after ys n is long le eq =
       let size : length (put (take u m) e) ≡ n = ap length is ∙ long in
       let t : has_place (shelf m u) e ≡ true = and_from _ _ (le-leb u (length m) fits) (le-leb _ _ (omega (arith, size))) in
       let whole : after ≡ put (take u m) e ++ drop (length (put (take u m) e)) m = rw (size, is) eq in (
-        ap (λ b. cond b (Ok tt) (Err HistoryFull)) (sym t),
-        same_shelf whole (sym size) ∙ ap (λ b. cond b (with_entry (shelf m u) e) (shelf m u)) (sym t),
+        ap Ok (sym size) ∙ ap (λ b. cond b (Ok (length (put (take u m) e))) (Err HistoryFull)) (sym t),
+        whole ∙ ap (λ b. (cond b (with_entry (shelf m u) e) (shelf m u)).memory) (sym t),
       )
 
-  pub gives_set : p < u → put (take u m) e ≡ set (take u m) p e → Gives m u e (set m p e) u (Ok tt)
+  pub gives_set : p < u → put (take u m) e ≡ set (take u m) p e → Gives m u e (set m p e) (Ok u)
   gives_set h is =
       placed (set m p e) (set (take u m) p e) u is (length-set (take u m) p e ∙ len) fits
       (ap (λ ys. set ys p e) (sym (take-append-drop u m)) ∙ set-append_left (take u m) (drop u m) p e (omega (arith, len)))
 
   pub gives_inserted : u < length m → put (take u m) e ≡ insert (take u m) p e →
-      Gives m u e (insert (take u m) p e ++ drop (u + 1) m) (u + 1) (Ok tt)
+      Gives m u e (insert (take u m) p e ++ drop (u + 1) m) (Ok (u + 1))
   gives_inserted h is =
       placed _ (insert (take u m) p e) (u + 1) is
       (length-insert (take u m) p e (omega (arith, within, len)) ∙ ap (λ n. n + 1) len) (omega arith) refl
 
-  pub gives_none : length m ≤ u → put (take u m) e ≡ insert (take u m) p e → Gives m u e m u (Err HistoryFull)
+  pub gives_none : length m ≤ u → put (take u m) e ≡ insert (take u m) p e → Gives m u e m (Err HistoryFull)
   gives_none h is =
       let size : length (put (take u m) e) ≡ u + 1 = ap length is ∙ length-insert (take u m) p e (omega (arith, within, len)) ∙ ap (λ n. n + 1) len in
       let t : has_place (shelf m u) e ≡ false = and_right (leb u (length m)) (leb (length (put (take u m) e)) (length m)) (lt-leb (length (put (take u m) e)) (length m) (omega (arith, size))) in (
-        ap (λ b. cond b (Ok tt) (Err HistoryFull)) (sym t),
-        ap (λ b. cond b (with_entry (shelf m u) e) (shelf m u)) (sym t),
+        ap (λ b. cond b (Ok (length (put (take u m) e))) (Err HistoryFull)) (sym t),
+        ap (λ b. (cond b (with_entry (shelf m u) e) (shelf m u)).memory) (sym t),
       )

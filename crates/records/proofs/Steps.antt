@@ -1,51 +1,22 @@
--- The steps of the loops over a slice of entries.
-use Rattle.std.proofs.Common.{◌≡◌, ℕ, ◌+◌, ◌-◌, ◌<◌, ◌≤◌, min, true, false, cond, ◌&&◌, List, [], ◌∷◌, length, get_or, take, drop, Some, None, Option, sym, refl, ap, ◌∙◌, ⊎_elim, arith}
+-- What the searches and tests of a slice of entries answer.
+use Rattle.std.proofs.Common.{zero, suc, ◌≡◌, ℕ, ◌+◌, ◌-◌, ◌<◌, ◌≤◌, min, true, false, cond, ◌&&◌, List, [], ◌∷◌, length, get_or, take, Some, None, Option, sym, refl, ap, ◌∙◌, ⊎_elim, arith}
 use Rattle.std.specs.Option.{option_or}
-use Rattle.std.proofs.lemmas.List.{drop_more, drop_all, take_all}
-use Rattle.std.proofs.lemmas.Bool.{cases_lt}
+use Rattle.std.specs.List.{prefix_len, list_all, find, IsAllAdjacentAnswer}
+use Rattle.std.specs.Option.{unwrap_or, option_map}
+use Rattle.std.proofs.Common.{not, ltb, reverse}
+use Rattle.std.proofs.lemmas.List.Sums.{prefix_len-le-length}
+use Rattle.std.proofs.lemmas.List.Folds.{find-append}
+use Rattle.std.proofs.lemmas.Bool.{lt-ltb, le-ltb}
+use Rattle.std.proofs.Common.{Bool}
+use Rattle.records.specs.Soundness.{in_range, all_in_range}
+use Rattle.std.proofs.lemmas.List.{reverse-append, take_all}
+use Rattle.std.proofs.lemmas.Bool.{cases_lt, and_from, and_right}
 use Rattle.records.specs.declared.dated.Dated.{Dated}
-use Rattle.records.specs.Books.{precedes, holds, leads, sorted, place, latest}
+use Rattle.records.specs.Books.{precedes, holds, sorted, place, latest}
 
 pub or_assoc : {X : Type 0} (a b c : Option X) → option_or (option_or a b) c ≡ option_or a (option_or b c)
 or_assoc (Some x) b c = refl
 or_assoc None b c = refl
-
-module _ {T : Type 0} (xs : List (Dated T)) (i : ℕ) (x : Dated T) (within : i < length xs) (read : x ≡ get_or xs i x) where
-  pub rest_at : drop i xs ≡ x ∷ drop (i + 1) xs
-  rest_at = drop_more xs i x within ∙ ap (λ y. y ∷ drop (i + 1) xs) (sym read)
-
-  pub place_more : (s d : ℕ) → precedes x s d ≡ true → i + place (drop i xs) s d ≡ (i + 1) + place (drop (i + 1) xs) s d
-  place_more s d t = rw (rest_at, t) (omega arith)
-
-  pub place_here : (s d : ℕ) → precedes x s d ≡ false → i + place (drop i xs) s d ≡ i
-  place_here s d t = rw (rest_at, t) (omega arith)
-
-  pub latest_more : (s d : ℕ) (o : Option T) →
-      option_or (latest (drop i xs) s d) o ≡ option_or (latest (drop (i + 1) xs) s d) (option_or (cond (holds x s d) (Some x.item) None) o)
-  latest_more s d o = rw rest_at (or_assoc (latest (drop (i + 1) xs) s d) _ o)
-
-  -- the entry before, and x
-  pub leads_at : (w : Dated T) → leads w (drop i xs) ≡ precedes w x.subject x.from_day
-  leads_at w = rw rest_at refl
-
-pub place_none : {T : Type 0} (xs : List (Dated T)) (i s d : ℕ) → length xs ≤ i → i + place (drop i xs) s d ≡ i
-place_none xs i s d h = rw (drop_all i xs h) (omega arith)
-
-pub latest_none : {T : Type 0} (xs : List (Dated T)) (i s d : ℕ) (o : Option T) → length xs ≤ i → option_or (latest (drop i xs) s d) o ≡ o
-latest_none xs i s d o h = rw (drop_all i xs h) refl
-
-module _ {T : Type 0} (xs : List (Dated T)) (i : ℕ) (w x : Dated T) (low : 1 ≤ i) (within : i < length xs)
-    (before : w ≡ get_or xs (i - 1) w) (read : x ≡ get_or xs i x) where
-  pub sorted_at : sorted (drop (i - 1) xs) ≡ (precedes w x.subject x.from_day && sorted (drop i xs))
-  sorted_at =
-      let one : (i - 1) + 1 ≡ i = omega arith in
-      let here : drop (i - 1) xs ≡ w ∷ drop i xs = rest_at xs (i - 1) w (omega arith) before ∙ ap (λ k. w ∷ drop k xs) one in
-      ap sorted here ∙ ap (λ b. b && sorted (drop i xs)) (leads_at xs i x within read w)
-
-pub sorted_one : {T : Type 0} (xs : List (Dated T)) → length xs ≤ 1 → sorted xs ≡ true
-sorted_one [] h = refl
-sorted_one (x ∷ []) h = refl
-sorted_one (x ∷ (y ∷ ys)) h = absurd (omega arith)
 
 -- the front of a slice as the checker reads `&s[0..n]`, with n at most the length
 pub take_min : {X : Type 0} (n : ℕ) (xs : List X) → take (min n (length xs) - 0) xs ≡ take n xs
@@ -58,3 +29,60 @@ take_min n xs = ⊎_elim short long (cases_lt n (length xs))
     long h =
         let e : min n (length xs) - 0 ≡ length xs = omega arith in
         ap (λ k. take k xs) e ∙ take_all (length xs) xs (omega arith) ∙ sym (take_all n xs h)
+
+prefix-is : {T : Type 0} (xs : List (Dated T)) (s d : ℕ) → prefix_len (λ x. not (not (precedes x s d))) xs ≡ place xs s d
+prefix-is [] s d = refl
+prefix-is (x ∷ xs) s d = step (precedes x s d) (prefix-is xs s d)
+  where
+    step : {n m : ℕ} (b : Bool) → n ≡ m → cond (not (not b)) (1 + n) 0 ≡ cond b (suc m) 0
+    step true h = omega (arith, h)
+    step false h = refl
+
+-- the first place that does not pass, or the length
+pub place_front : {T : Type 0} (xs : List (Dated T)) (s d : ℕ) →
+    let n = prefix_len (λ x. not (not (precedes x s d))) xs in
+    unwrap_or (cond (ltb n (length xs)) (Some n) None) (length xs) ≡ place xs s d
+place_front xs s d = go (prefix_len (λ x. not (not (precedes x s d))) xs) (length xs) (prefix_len-le-length (λ x. not (not (precedes x s d))) xs) ∙ prefix-is xs s d
+  where
+    go : (n m : ℕ) → n ≤ m → unwrap_or (cond (ltb n m) (Some n) None) m ≡ n
+    go n m le = ⊎_elim (λ lt. ap (λ b. unwrap_or (cond b (Some n) None) m) (lt-ltb n m lt)) (λ ge. ap (λ b. unwrap_or (cond b (Some n) None) m) (le-ltb n m ge) ∙ omega arith) (cases_lt n m)
+
+-- the last that holds
+latest_step : {T : Type 0} (x : Dated T) (o : Option (Dated T)) (l : Option T) (b : Bool) → option_map (λ y. y.item) o ≡ l →
+    option_map (λ y. y.item) (option_or o (cond b (Some x) None)) ≡ option_or l (cond b (Some x.item) None)
+latest_step x None l true h = ap (λ z. option_or z (Some x.item)) h
+latest_step x None l false h = ap (λ z. option_or z None) h
+latest_step x (Some y) l b h = ap (λ z. option_or z (cond b (Some x.item) None)) h
+
+pub latest_last : {T : Type 0} (xs : List (Dated T)) (s d : ℕ) → option_map (λ y. y.item) (find (λ x. holds x s d) (reverse xs)) ≡ latest xs s d
+latest_last [] s d = refl
+latest_last (x ∷ xs) s d =
+    ap (λ ys. option_map (λ y. y.item) (find (λ y. holds y s d) ys)) (reverse-append (x ∷ []) xs) ∙ ap (option_map (λ y. y.item)) (find-append (λ y. holds y s d) (reverse xs) (x ∷ [])) ∙ latest_step x (find (λ y. holds y s d) (reverse xs)) (latest xs s d) (holds x s d) (latest_last xs s d)
+
+pub all_ranged : {T : Type 0} (ok : T → Bool) (first last : ℕ) (xs : List (Dated T)) → list_all (in_range ok first last) xs ≡ all_in_range ok first last xs
+all_ranged ok first last [] = refl
+all_ranged ok first last (x ∷ xs) = ap (λ b. in_range ok first last x && b) (all_ranged ok first last xs)
+
+one_more : (k : ℕ) → suc k + 1 ≡ suc (k + 1)
+one_more k = omega arith
+
+-- `is_sorted_by` speaks of each place and the next
+module _ {T : Type 0} where
+  sorted_if : (xs : List (Dated T)) → ((k : ℕ) (d : Dated T) → k + 1 < length xs → true ≡ precedes (get_or xs k d) (get_or xs (k + 1) d).subject (get_or xs (k + 1) d).from_day) →
+      true ≡ sorted xs
+  sorted_if [] all = refl
+  sorted_if (x ∷ []) all = refl
+  sorted_if (x ∷ (y ∷ ys)) all =
+      sym (and_from (precedes x y.subject y.from_day) (sorted (y ∷ ys)) (sym (all 0 x (omega arith))) (sym (sorted_if (y ∷ ys) (λ k d h. rw (one_more k) at (all (suc k) d (omega arith))))))
+
+  unsorted_if : (xs : List (Dated T)) (k : ℕ) → k + 1 < length xs → ((d : Dated T) → false ≡ precedes (get_or xs k d) (get_or xs (k + 1) d).subject (get_or xs (k + 1) d).from_day) →
+      false ≡ sorted xs
+  unsorted_if [] k h apart = absurd (omega arith)
+  unsorted_if (x ∷ []) k h apart = absurd (omega arith)
+  unsorted_if (x ∷ (y ∷ ys)) zero h apart = ap (λ b. b && sorted (y ∷ ys)) (apart x)
+  unsorted_if (x ∷ (y ∷ ys)) (suc k) h apart =
+      sym (and_right (precedes x y.subject y.from_day) (sorted (y ∷ ys)) (sym (unsorted_if (y ∷ ys) k (omega arith) (λ d. rw (one_more k) at (apart d)))))
+
+  pub sorted_answer : (xs : List (Dated T)) (r : Bool) → IsAllAdjacentAnswer (λ x y b. b ≡ precedes x y.subject y.from_day) xs r → r ≡ sorted xs
+  sorted_answer xs true all = sorted_if xs all
+  sorted_answer xs false one = unsorted_if xs one.0 one.1 one.2

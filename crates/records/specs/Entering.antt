@@ -30,6 +30,10 @@ module _ {T : Type 0} where
   abbrev pub entry_answer : Shelf (Dated T) → Dated T → Result (Unit {0}) Refusal
   entry_answer s e = cond (has_place s e) (Ok tt) (Err HistoryFull)
 
+  -- how many entries are then in use
+  abbrev pub count_answer : Shelf (Dated T) → Dated T → Result ℕ Refusal
+  count_answer s e = cond (has_place s e) (Ok (length (put (items s) e))) (Err HistoryFull)
+
 -- s became t when e was to be entered, with the answer r
 pub record Booked {T : Type 0} (s t : Shelf (Dated T)) (e : Dated T) (r : Result (Unit {0}) Refusal) : Type 0 where
   -- e is entered in the plain book, which a refusal leaves as it was: for any memory

@@ -3,7 +3,7 @@ ghost use Rattle.std.specs.Prelude.{◌≡◌, ◌+◌, ◌<◌, ◌≤◌, ◌+
 ghost use Rattle.std.specs.List.{insert};
 ghost use Rattle.records.specs.Books.{sorted, place, latest};
 ghost use Rattle.records.specs.Histories.{shelf};
-ghost use Rattle.records.specs.Entering.{entered_shelf, entry_answer};
+ghost use Rattle.records.specs.Entering.{entered_shelf, count_answer};
 
 use crate::dated::Dated;
 use tariff::refusal::Refusal;
@@ -12,38 +12,28 @@ use tariff::refusal::Refusal;
 pub(crate) fn in_order<T>(entries: &[Dated<T>]) -> bool
     ensures { result ≡ sorted entries.now }
 {
-    for i in 1..entries.len() {
-        let next = &entries[i];
-        if !entries[i - 1].precedes(next.subject, next.from_day) {
-            return false;
-        }
-    }
-    true
+    entries.is_sorted_by(|entry, next| entry.precedes(next.subject, next.from_day))
 }
 
 // How many entries at the front stand before `subject` and `from_day`.
 fn place_of<T>(entries: &[Dated<T>], subject: u32, from_day: u32) -> usize
     ensures { result ≡ place entries.now subject from_day }
 {
-    for (i, e) in entries.iter().enumerate() {
-        if !e.precedes(subject, from_day) {
-            return i;
-        }
-    }
-    entries.len()
+    entries
+        .iter()
+        .position(|entry| !entry.precedes(subject, from_day))
+        .unwrap_or(entries.len())
 }
 
 // The item of the last entry of `subject` from a day not after `day`.
 pub fn latest_of<T: Copy>(entries: &[Dated<T>], subject: u32, day: u32) -> Option<T>
     ensures { result ≡ latest entries.now subject day }
 {
-    let mut found = None;
-    for e in entries {
-        if e.holds(subject, day) {
-            found = Some(e.item);
-        }
-    }
-    found
+    entries
+        .iter()
+        .rev()
+        .find(|entry| entry.holds(subject, day))
+        .map(|entry| entry.item)
 }
 
 // Puts `entry` at `at` among the first `used` entries, and those from there on one further.
@@ -56,30 +46,29 @@ fn insert_at<T: Copy>(entries: &mut [Dated<T>], used: usize, at: usize, entry: D
     shifted.rotate_right(1);
 }
 
-// Enters `entry` in order among the first `used` entries, in place of the one with its subject and from-day if there is one.
+// Enters `entry` in order among the first `used` entries, in place of the one with its subject and from-day if there is one,
+// and answers how many are then in use.
 pub fn put_in<T: Copy>(
     entries: &mut [Dated<T>],
-    used: &mut usize,
+    used: usize,
     entry: Dated<T>,
-) -> Result<(), Refusal>
-    ensures answer { result ≡ entry_answer (shelf entries.old used.old) entry }
-    ensures entered { shelf entries.new used.new ≡ entered_shelf (shelf entries.old used.old) entry }
+) -> Result<usize, Refusal>
+    ensures answer { result ≡ count_answer (shelf entries.old used) entry }
+    ensures entered { entries.new ≡ (entered_shelf (shelf entries.old used) entry).memory }
 {
-    let count = *used;
     let len = entries.len();
-    if count > len {
+    if used > len {
         return Err(Refusal::HistoryFull);
     }
     let all = &*entries;
-    let at = place_of(&all[0..count], entry.subject, entry.from_day);
-    if at < count && entries[at].stands_at(entry.subject, entry.from_day) {
+    let at = place_of(&all[0..used], entry.subject, entry.from_day);
+    if at < used && entries[at].stands_at(entry.subject, entry.from_day) {
         entries[at] = entry;
-        return Ok(());
+        return Ok(used);
     }
-    if count == len {
+    if used == len {
         return Err(Refusal::HistoryFull);
     }
-    insert_at(entries, count, at, entry);
-    *used = count + 1;
-    Ok(())
+    insert_at(entries, used, at, entry);
+    Ok(used + 1)
 }

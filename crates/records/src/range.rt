@@ -46,8 +46,7 @@ impl Ranged for Service {
 fn is_in_range<T: Ranged>(entry: &Dated<T>, first: u32, last: u32) -> bool
     ensures { result ≡ in_range T.Ranged.ranged first last entry.now }
 {
-    first <= entry.subject
-        && entry.subject <= last
+    (first..=last).contains(&entry.subject)
         && entry.from_day <= LAST_FROM_DAY
         && entry.item.is_ranged()
 }
@@ -56,10 +55,5 @@ fn is_in_range<T: Ranged>(entry: &Dated<T>, first: u32, last: u32) -> bool
 pub(crate) fn are_in_range<T: Ranged>(entries: &[Dated<T>], first: u32, last: u32) -> bool
     ensures { result ≡ all_in_range T.Ranged.ranged first last entries.now }
 {
-    for e in entries {
-        if !is_in_range(e, first, last) {
-            return false;
-        }
-    }
-    true
+    entries.iter().all(|entry| is_in_range(entry, first, last))
 }

@@ -1,15 +1,14 @@
 -- Where the days of a table lie.
-use Rattle.std.proofs.Common.{◌≡◌, ℕ, ◌+◌, ◌-◌, ◌/◌, ◌%◌, ◌<◌, ◌≤◌, List, map, length, get_or, sym, ap, ◌∙◌, arith}
-use Rattle.std.proofs.lemmas.Nat.{div-mul-add, mod-mul-add, mul-le}
+use Rattle.std.proofs.Common.{◌≡◌, ℕ, ◌-◌, ◌/◌, ◌%◌, ◌<◌, ◌≤◌, List, [], ◌∷◌, map, length, get_or, Some, sym, ap, ◌∙◌, subst, arith}
+use Rattle.std.specs.Array.{list_steps}
+use Rattle.std.specs.Iterator.{Yields}
+use Rattle.std.specs.List.{AllByRecursion}
+use Rattle.std.proofs.lemmas.Nat.{div-mul-add, mod-mul-add}
 use Rattle.std.proofs.lemmas.List.{ext_get_or, get_or-map, length-map}
 use Rattle.tariff.specs.declared.reading.Reading.{Reading}
 use Rattle.tariff.specs.declared.reading.Reading.TheVariants.{Withdrawal}
-use Rattle.stores.specs.Words.{encoded, sheets_before, offset}
-use Rattle.stores.specs.TableLaws.{offset_within}
-
-pub offset_small : (n days p d : ℕ) → n ≤ 400 → days ≤ 31 → 1 ≤ p → p ≤ n → 1 ≤ d → d ≤ days → offset days p d + 24 ≤ 297600
-offset_small n days p d few short p1 pn d1 dn =
-    omega (arith, offset_within n days p d p1 pn d1 dn, mul-le n days 400 31 few short)
+use Rattle.tariff.specs.Readings.{Allowed}
+use Rattle.stores.specs.Words.{encoded, sheets_before}
 
 -- sheets that stand at one place are of one point and day
 pub same_place : (days p d q e : ℕ) → 1 ≤ p → 1 ≤ q → 1 ≤ d → d ≤ days → 1 ≤ e → e ≤ days → sheets_before days p d ≡ sheets_before days q e → (p ≡ q) × (d ≡ e)
@@ -22,3 +21,8 @@ same_place days p d q e p1 q1 d1 dn e1 en same =
 pub all_written : (rs : List Reading) (ws : List ℕ) → length ws ≡ length rs → ((k : ℕ) → k < length ws → get_or ws k 0 ≡ encoded (get_or rs k (Withdrawal 0))) → ws ≡ map encoded rs
 all_written rs ws same each =
     ext_get_or 0 ws (map encoded rs) (same ∙ sym (length-map rs encoded)) (λ k h. each k h ∙ sym (get_or-map encoded rs k (Withdrawal 0) 0 (omega arith)))
+
+-- what comes from a list that is taken item by item is an item of it
+pub allowed_at : (rs xs t u : List Reading) (r : Reading) → AllByRecursion Allowed rs → Yields list_steps rs xs t → list_steps t (Some r) u → Allowed r
+allowed_at rs [] t u r all same here = (subst (AllByRecursion Allowed) (same ∙ here) all).0
+allowed_at rs (x ∷ xs) t u r all (v, first, later) here = allowed_at v xs t u r (subst (AllByRecursion Allowed) first all).1 later here

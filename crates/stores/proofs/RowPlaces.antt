@@ -1,24 +1,31 @@
 -- Where rows stand, and what putting one changes.
-use Rattle.std.proofs.Common.{◌≡◌, ℕ, suc, ◌+◌, ◌-◌, ◌<◌, ◌≤◌, Bool, true, false, cond, ◌&&◌, eqb, ltb, List, [], ◌∷◌, ◌++◌, length, get_or, take, drop, set, is_some, Some, None, Option, sym, refl, ap, ◌∙◌, ap₂, ⊎_elim, arith}
-use Rattle.std.proofs.lemmas.List.{at_drop_more, at_drop_all, length-take-le, get_or-take}
-use Rattle.std.proofs.lemmas.Bool.{cond-true, cond-false, cond_both, and_parts, and_from, and_left, and_right, eqb-true, eq-eqb, lt-ltb, le-ltb, lt-leb, cases_lt, cases_Bool, both_ways}
+use Rattle.std.specs.List.{position_or_len}
+use Rattle.std.specs.Option.{unwrap_or}
+use Rattle.std.proofs.lemmas.List.Sums.{prefix_len-le-length}
+use Rattle.std.proofs.Common.{not, ◌≡◌, ℕ, suc, ◌+◌, ◌-◌, ◌<◌, ◌≤◌, Bool, true, false, cond, ◌&&◌, eqb, ltb, List, [], ◌∷◌, ◌++◌, length, get_or, take, set, is_some, Some, None, Option, sym, refl, ap, ◌∙◌, ap₂, ⊎_elim, arith}
+use Rattle.std.proofs.lemmas.List.{length-take-le, get_or-take}
+use Rattle.std.proofs.lemmas.Bool.{cond-true, cond-false, cond_both, and_parts, and_from, eqb-true, eq-eqb, lt-ltb, le-ltb, cases_lt, cases_Bool, both_ways}
 use Rattle.tariff.specs.declared.reading.Reading.{Reading}
 use Rattle.tariff.specs.declared.reading.Reading.TheVariants.{Withdrawal}
-use Rattle.tariff.specs.Ranges.{within, within_from}
+use Rattle.tariff.specs.Ranges.{within}
 use Rattle.readings.specs.Meaning.{hour_of, reading_at}
 use Rattle.stores.specs.declared.row_store.Row.{Row}
 use Rattle.stores.specs.Rows.{matches, sheet_in, place_of, of_rows}
 
--- the search for a row, one row on
-module _ (p d : ℕ) (xs : List Row) (i : ℕ) (z : Row) (lt : i < length xs) where
-  pub place_here : matches p d (get_or xs i z) ≡ true → i + place_of p d (drop i xs) ≡ i
-  place_here e = let h = at_drop_more (place_of p d) xs i z lt ∙ cond-true (matches p d (get_or xs i z)) _ _ e in omega (arith, h)
+-- the first row of a place, or the end
+first-is : (p d : ℕ) (xs : List Row) → position_or_len (matches p d) xs ≡ place_of p d xs
+first-is p d [] = refl
+first-is p d (x ∷ xs) = step (matches p d x) (first-is p d xs)
+  where
+    step : {n m : ℕ} (b : Bool) → n ≡ m → cond (not b) (1 + n) 0 ≡ cond b 0 (suc m)
+    step true h = refl
+    step false h = omega (arith, h)
 
-  pub place_later : matches p d (get_or xs i z) ≡ false → i + place_of p d (drop i xs) ≡ i + 1 + place_of p d (drop (i + 1) xs)
-  place_later e = let h = at_drop_more (place_of p d) xs i z lt ∙ cond-false (matches p d (get_or xs i z)) _ _ e in omega (arith, h)
-
-pub place_end : (p d : ℕ) (xs : List Row) (i : ℕ) → length xs ≤ i → place_of p d (drop i xs) ≡ 0
-place_end p d xs i h = at_drop_all (place_of p d) xs i h
+pub place_first : (p d : ℕ) (xs : List Row) → let n = position_or_len (matches p d) xs in unwrap_or (cond (ltb n (length xs)) (Some n) None) (length xs) ≡ place_of p d xs
+place_first p d xs = go (position_or_len (matches p d) xs) (length xs) (prefix_len-le-length (λ x. not (matches p d x)) xs) ∙ first-is p d xs
+  where
+    go : (n m : ℕ) → n ≤ m → unwrap_or (cond (ltb n m) (Some n) None) m ≡ n
+    go n m le = ⊎_elim (λ lt. ap (λ b. unwrap_or (cond b (Some n) None) m) (lt-ltb n m lt)) (λ ge. ap (λ b. unwrap_or (cond b (Some n) None) m) (le-ltb n m ge) ∙ omega arith) (cases_lt n m)
 
 -- what stands there
 pub place_le : (p d : ℕ) (xs : List Row) → place_of p d xs ≤ length xs
@@ -136,14 +143,11 @@ module _ (n days used : ℕ) (rows : List Row) (p d i : ℕ) (filled : used ≤ 
   pub rows_no_sheet : (h : ℕ) → used ≤ i → reading_at (of_rows n days (take used rows)) p d h ≡ None
   rows_no_sheet h ge = ap (λ o. hour_of o h) (sheet_none p d (take used rows) (omega (arith, at, taken)))
 
-  pub rows_early : (h : ℕ) → h < 1 → reading_at (of_rows n days (take used rows)) p d h ≡ None
-  rows_early h lt = hour_outside (sheet_in p d (take used rows)) h (and_left _ _ (lt-leb 1 h lt))
+  pub rows_outside : (h : ℕ) → within 24 h ≡ false → reading_at (of_rows n days (take used rows)) p d h ≡ None
+  rows_outside h out = hour_outside (sheet_in p d (take used rows)) h out
 
-  pub rows_late : (h : ℕ) → 24 < h → reading_at (of_rows n days (take used rows)) p d h ≡ None
-  rows_late h lt = hour_outside (sheet_in p d (take used rows)) h (and_right _ _ (lt-leb h 24 lt))
-
-  pub rows_reading : (h : ℕ) (z : Row) → i < used → 1 ≤ h → h ≤ 24 → reading_at (of_rows n days (take used rows)) p d h ≡ Some (get_or (get_or rows i z).readings (h - 1) (Withdrawal 0))
-  rows_reading h z lt h1 hn =
+  pub rows_reading : (h : ℕ) (z : Row) → i < used → within 24 h ≡ true → reading_at (of_rows n days (take used rows)) p d h ≡ Some (get_or (get_or rows i z).readings (h - 1) (Withdrawal 0))
+  rows_reading h z lt inside =
       ap (λ o. hour_of o h) (sheet_some p d (take used rows) z (omega (arith, at, taken)) ∙ ap (λ k. Some (get_or (take used rows) k z).readings) (sym at))
-      ∙ cond-true (within 24 h) _ _ (within_from 24 h h1 hn)
+      ∙ cond-true (within 24 h) _ _ inside
       ∙ ap (λ x. Some (get_or x.readings (h - 1) (Withdrawal 0))) (get_or-take used rows i z lt)

@@ -8,7 +8,7 @@ use Rattle.tariff.specs.declared.reading.Reading.{Reading}
 use Rattle.tariff.specs.declared.reading.Reading.TheVariants.{Withdrawal, Injection}
 use Rattle.tariff.specs.declared.reading.Sheet.{Sheet}
 use Rattle.tariff.specs.Readings.{Allowed}
-use Rattle.tariff.specs.Ranges.{within, between_parts, within_from}
+use Rattle.tariff.specs.Ranges.{within, between_parts}
 use Rattle.tariff.specs.Sheets.{judged}
 use Rattle.readings.specs.Meaning.{hour_of, reading_at, posted, after_post}
 use Rattle.readings.specs.Options.{from_passed}
@@ -123,9 +123,10 @@ table_after n days ws s o fits full ok at =
     ∙ sym (cond-true (is_ok (judged n days s)) _ _ (ap is_ok (sym ok)))
 
 pub table_reading : (n days : ℕ) (ws : List ℕ) (p d h o : ℕ) → n * days * 24 ≤ length ws
-    → Some o ≡ cond (within n p && within days d) (Some (offset days p d)) None → (get_or ws o 0 ≡ 4294967295 → ⊥) → 1 ≤ h → h ≤ 24
+    → Some o ≡ cond (within n p && within days d) (Some (offset days p d)) None → (get_or ws o 0 ≡ 4294967295 → ⊥) → within 24 h ≡ true
     → reading_at (table n days ws) p d h ≡ Some (decoded (get_or ws (o + (h - 1)) 0))
-table_reading n days ws p d h o fits at there h1 hn =
+table_reading n days ws p d h o fits at there hour =
+    let (h1, hn) = between_parts 1 24 h hour in
     let (inside, is) = found_at n days p d o at in
     let (wp, wd) = and_parts (within n p) (within days d) inside in
     let (p1, pn) = between_parts 1 n p wp in
@@ -137,5 +138,5 @@ table_reading n days ws p d h o fits at there h1 hn =
     cond-true (within n p && within days d) _ _ inside ∙ ap (day_at ws) (sym is)
     ∙ cond-false (eqb (get_or ws o 0) 4294967295) None (Some (map decoded part)) (ne_eqb _ _ there) in
     ap (λ x. hour_of x h) day
-    ∙ cond-true (within 24 h) _ _ (within_from 24 h h1 hn)
+    ∙ cond-true (within 24 h) _ _ hour
     ∙ ap Some (get_or-map decoded part (h - 1) 0 (Withdrawal 0) (omega arith) ∙ ap decoded (get_or-take 24 (drop o ws) (h - 1) 0 (omega arith) ∙ get_or-drop o ws (h - 1) 0))

@@ -8,13 +8,13 @@ use Rattle.stores.specs.Rows.{of_rows}
 use Rattle.stores.specs.Words.{table}
 
 abbrev pub words_of : FullTable → List ℕ
-words_of s = s.memory.words.now
+words_of s = s.words.now
 
 abbrev pub table_of : FullTable → Meaning
-table_of s = table s.points s.days (words_of s)
+table_of s = table s.extent.points s.extent.days (words_of s)
 
 abbrev pub used_rows : RowStore → List Row
 used_rows s = take s.used s.rows.now
 
 abbrev pub rows_of : RowStore → Meaning
-rows_of s = of_rows s.points s.days (used_rows s)
+rows_of s = of_rows s.extent.points s.extent.days (used_rows s)

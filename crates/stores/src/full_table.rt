@@ -1,20 +1,13 @@
 // A store with a number for each hour of each day of each point: the reading, or the mark of a missing one.
 ghost use Rattle.std.specs.Prelude.{◌*◌, ◌≤◌, length};
 
-mod store;
+use crate::extent::Extent;
 
-// The lent numbers. They have a struct of their own, since those of a struct with a ghost field cannot be lent on.
-#[derive(Drop)]
-struct Words<'a> {
-    words: &'a mut [u32],
-}
+mod store;
 
 #[derive(Drop)]
 pub struct FullTable<'a> {
-    points: u32,
-    days: u32,
-    memory: Words<'a>,
-    ghost limit: { points ≤ 400 },
-    ghost month: { days ≤ 31 },
-    ghost fits: { points * days * 24 ≤ length memory.words.now },
+    extent: Extent,
+    words: &'a mut [u32],
+    ghost fits: { extent.points * extent.days * 24 ≤ length words.now },
 }

@@ -3,6 +3,7 @@
 // To a caller both stores mean the same; they differ in what the lent memory holds.
 #![tactic(auto)]
 
+mod extent;
 pub mod full_table;
 mod room;
 pub mod row_store;

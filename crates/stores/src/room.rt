@@ -15,7 +15,7 @@ pub(crate) fn check_room(
     requires { per_sheet ≤ 24 }
     ensures { result ≡ room_judged points days (points * days * per_sheet) memory_len }
 {
-    if points > MAX_POINTS || days < 28 || days > 31 {
+    if points > MAX_POINTS || !(28..=31).contains(&days) {
         return Err(Refusal::StoreDoesNotFit);
     }
     if (points * days) as usize * per_sheet > memory_len {

@@ -2,10 +2,12 @@
 ghost use Rattle.std.specs.Prelude.{◌≡◌, ◌*◌, ◌≤◌, true, length, take};
 ghost use Rattle.stores.specs.Rows.{rows_ok};
 
+use crate::extent::Extent;
 use tariff::reading::Reading;
 
 mod store;
 
+// A sheet's fields in a type of the store's own, so that the store says what its memory is filled with.
 #[derive(Clone, Copy)]
 pub struct Row {
     pub point: u32,
@@ -24,13 +26,10 @@ impl Row {
 
 #[derive(Drop)]
 pub struct RowStore<'a> {
-    points: u32,
-    days: u32,
+    extent: Extent,
     used: usize,
     rows: &'a mut [Row],
-    ghost limit: { points ≤ 400 },
-    ghost month: { days ≤ 31 },
-    ghost fits: { points * days ≤ length rows.now },
+    ghost fits: { extent.points * extent.days ≤ length rows.now },
     ghost filled: { used ≤ length rows.now },
-    ghost ok: { rows_ok points days (take used rows.now) ≡ true },
+    ghost ok: { rows_ok extent.points extent.days (take used rows.now) ≡ true },
 }

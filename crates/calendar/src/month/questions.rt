@@ -1,30 +1,25 @@
 // What a month's calendar answers.
 ghost use Rattle.std.specs.Prelude.{◌≡◌, ℕ, suc, ◌+◌, ◌-◌, ◌/◌, ◌%◌, ◌^◌, ◌<◌, ◌≤◌, if◌then◌else◌, Some, None, MatchResult};
-ghost use Rattle.calendar.specs.Marks.{marked, refusal_of, FitsMeansNoMark};
+ghost use Rattle.calendar.specs.Marks.{refusal_of, FitsMeansNoMark};
 ghost use Rattle.calendar.specs.Dates.{days_in};
-ghost use Rattle.calendar.specs.Calendars.{Holds, length_in, first_in, last_in, is_working, is_summer, working_in};
+ghost use Rattle.calendar.specs.Calendars.{Holds, length_in, first_in, last_in, has_day, is_working, is_summer, working_in};
 
 use super::Calendar;
 use crate::dates;
+use crate::marks::is_marked;
 use tariff::refusal::Refusal;
 
 // Bit i is set where the i-th day after a Monday is a day from Monday to Friday.
 const WEEKDAYS: u64 = 0b11111_0011111_0011111_0011111_0011111_0011111;
 
-fn is_marked(mask: u32, day: u32) -> bool
-    requires { (1 ≤ day) × (day ≤ 32) }
-    ensures { result ≡ marked mask day }
-{
-    mask >> (day - 1) & 1 == 1
-}
-
 impl Calendar {
     // Tests 1, then 2. That a mask fits in the month says just that no other day is marked.
+    #[tactic(auto, using(crate::proofs::Marked::fits_means_no_mark))]
     pub fn new(year: u32, month: u32, holidays: u32, summer: u32) -> Result<Calendar, Refusal>
         ensures result { MatchResult result (λ c. (refusal_of year month holidays summer ≡ None) × Holds c year month holidays summer) (λ e. refusal_of year month holidays summer ≡ Some e) }
         ensures marks { FitsMeansNoMark holidays (days_in year month) × FitsMeansNoMark summer (days_in year month) }
     {
-        if year < dates::FIRST_YEAR || year > dates::LAST_YEAR || month < 1 || month > 12 {
+        if !dates::is_month(year, month) {
             return Err(Refusal::NoSuchMonth);
         }
         let days = dates::days_in_month(year, month);
@@ -45,6 +40,13 @@ impl Calendar {
         dates::days_in_month(self.year, self.month)
     }
 
+    // Whether the month has the day.
+    pub fn has_day(&self, day: u32) -> bool
+        ensures { result ≡ has_day self.now day }
+    {
+        (1..=self.days()).contains(&day)
+    }
+
     // The day number of the first day.
     pub fn first_day(&self) -> u32
         ensures { (result ≡ first_in self.now) × (result + length_in self.now ≤ 36525) }
@@ -63,19 +65,19 @@ impl Calendar {
     pub fn is_working_day(&self, day: u32) -> bool
         ensures { result ≡ is_working self.now day }
     {
-        if day < 1 || day > self.days() {
-            return false;
-        }
-        dates::weekday(self.first_day() + (day - 1)) < 5 && !is_marked(self.holidays, day)
+        self.has_day(day)
+            && dates::weekday(self.first_day() + (day - 1)) < 5
+            && !is_marked(self.holidays, day)
     }
 
     pub fn is_summer(&self, day: u32) -> bool
         ensures { result ≡ is_summer self.now day }
     {
-        1 <= day && day <= self.days() && is_marked(self.summer, day)
+        self.has_day(day) && is_marked(self.summer, day)
     }
 
     // Bit 0 is set if the first day is a working day, and so on.
+    #[tactic(auto, using(crate::proofs::Working::mask_bits))]
     fn working_mask(&self) -> u64
         ensures { (result < 2 ^ length_in self.now) × ((k : ℕ) → k < length_in self.now → result / 2 ^ k % 2 ≡ (if is_working self.now (suc k) then 1 else 0)) }
     {

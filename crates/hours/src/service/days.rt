@@ -6,8 +6,8 @@ ghost use Rattle.hours.specs.Hours.{is_in_service};
 ghost use Rattle.hours.specs.Services.{serves_on, admitted_by, admitted_within};
 
 use super::ServiceDays;
-use crate::rules::HourRule;
-use calendar::marks::{DayRule, mask_of};
+use crate::rules::{HourRule, is_in_month};
+use calendar::marks::{DayRule, is_marked, mask_of};
 use calendar::month::Calendar;
 use records::history::History;
 use tariff::parties::Service;
@@ -20,10 +20,7 @@ impl HourRule for ServiceDays {
     ghost within = { admitted_within };
 
     fn admits_hour(&self, day: u32, hour: u32) -> bool {
-        if day < 1 || day > self.days || hour < 1 || hour > 24 {
-            return false;
-        }
-        self.mask >> (day - 1) & 1 == 1
+        is_in_month(self.days, day, hour) && is_marked(self.mask, day)
     }
 }
 
@@ -31,10 +28,9 @@ impl HourRule for ServiceDays {
 fn serves(history: &History<Service>, point: u32, day: u32) -> bool
     ensures { result ≡ serves_on (shelf_of history.now) point day }
 {
-    match history.on_record(point, day) {
-        Some(service) => service.in_service,
-        None => false,
-    }
+    history
+        .on_record(point, day)
+        .is_some_and(|service| service.in_service)
 }
 
 // The days of the month on which a point has service on record.
@@ -49,14 +45,12 @@ impl DayRule for Served<'_, '_> {
     ghost picks = { λ s d. has_day s.calendar.now d && serves_on (shelf_of s.history.now) s.point (first_in s.calendar.now + (d - 1)) };
 
     fn picks_day(&self, day: u32) -> bool {
-        if day < 1 || day > self.calendar.days() {
-            return false;
-        }
-        serves(
-            self.history,
-            self.point,
-            self.calendar.first_day() + (day - 1),
-        )
+        self.calendar.has_day(day)
+            && serves(
+                self.history,
+                self.point,
+                self.calendar.first_day() + (day - 1),
+            )
     }
 }
 

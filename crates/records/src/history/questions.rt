@@ -35,10 +35,8 @@ impl<'a, T: Copy> History<'a, T> {
             from_day,
             item,
         };
-        let mut used = self.used;
-        let answer = entries::put_in(self.entries, &mut used, entry);
-        self.used = used;
-        answer
+        self.used = entries::put_in(self.entries, self.used, entry)?;
+        Ok(())
     }
 }
 

@@ -9,7 +9,8 @@ ghost use Rattle.stores.specs.TableLaws.{table_sound};
 ghost use Rattle.stores.specs.Words.{encoded, decoded, offset, with_day};
 ghost use Rattle.stores.specs.Stores.{table_of, words_of};
 
-use super::{FullTable, Words};
+use super::FullTable;
+use crate::extent::Extent;
 use crate::room::check_room;
 use readings::readings::{Readings, SheetStore};
 use tariff::reading::{Reading, Sheet, check_sheet};
@@ -43,16 +44,6 @@ fn decode(word: u32) -> Reading
     }
 }
 
-impl<'a> Words<'a> {
-    // Writes a day's readings from `start` on.
-    fn store(&mut self, start: usize, readings: &[Reading; 24])
-        requires { (start + 24 ≤ length self.old.words.now) × (AllByRecursion Allowed readings.now) }
-        ensures { self.new.words.now ≡ with_day self.old.words.now start readings.now }
-    {
-        store_day(self.words, start, readings);
-    }
-}
-
 impl<'a> FullTable<'a> {
     // Whether the memory is enough for a month of the points.
     pub fn check(points: u32, days: u32, memory_len: usize) -> Result<(), Refusal>
@@ -68,28 +59,26 @@ impl<'a> FullTable<'a> {
     {
         if FullTable::check(points, days, memory.len()).is_err() {
             return FullTable {
-                points: 0,
-                days: 0,
-                memory: Words { words: memory },
+                extent: Extent::NONE,
+                words: memory,
             };
         }
         clear(memory);
         FullTable {
-            points,
-            days,
-            memory: Words { words: memory },
+            extent: Extent { points, days },
+            words: memory,
         }
     }
 
     // Where the numbers of a day begin.
     fn find(&self, point: u32, day: u32) -> Option<usize>
-        ensures value { result ≡ (if within self.now.points point && within self.now.days day then Some (offset self.now.days point day) else None) }
+        ensures value { result ≡ (if within self.now.extent.points point && within self.now.extent.days day then Some (offset self.now.extent.days point day) else None) }
         ensures bound { IfSome result (λ o. o + 24 ≤ length (words_of self.now)) }
     {
-        if point < 1 || point > self.points || day < 1 || day > self.days {
+        if !self.extent.has(point, day) {
             return None;
         }
-        Some(((point - 1) as usize * self.days as usize + (day - 1) as usize) * 24)
+        Some(((point - 1) as usize * self.extent.days as usize + (day - 1) as usize) * 24)
     }
 }
 
@@ -97,9 +86,7 @@ impl<'a> FullTable<'a> {
 fn clear(words: &mut [u32])
     ensures { words.new ≡ replicate (length words.old) 4294967295 }
 {
-    for word in words.iter_mut() {
-        *word = MISSING;
-    }
+    words.fill(MISSING);
 }
 
 // Writes a day's readings over 24 numbers.
@@ -107,9 +94,7 @@ fn write_day(words: &mut [u32], readings: &[Reading; 24])
     requires { (length words.old ≡ 24) × (AllByRecursion Allowed readings.now) }
     ensures { words.new ≡ map encoded readings.now }
 {
-    for (i, reading) in readings.iter().enumerate() {
-        words[i] = encode(*reading);
-    }
+    words.copy_from_slice(&readings.map(encode));
 }
 
 // Writes a day's readings over the 24 numbers from `start` on.
@@ -123,29 +108,27 @@ fn store_day(words: &mut [u32], start: usize, readings: &[Reading; 24])
 impl<'a> Readings for FullTable<'a> {
     ghost meaning = { table_of };
 
-    ghost sound = { λ s. table_sound s.points s.days (words_of s) s.fits };
+    ghost sound = { λ s. table_sound s.extent.points s.extent.days (words_of s) s.fits };
 
     fn points(&self) -> u32 {
-        self.points
+        self.extent.points
     }
 
     fn days(&self) -> u32 {
-        self.days
+        self.extent.days
     }
 
     fn has_sheet(&self, point: u32, day: u32) -> bool {
-        match self.find(point, day) {
-            Some(start) => self.memory.words[start] != MISSING,
-            None => false,
-        }
+        self.find(point, day)
+            .is_some_and(|start| self.words[start] != MISSING)
     }
 
     fn reading(&self, point: u32, day: u32, hour: u32) -> Option<Reading> {
         let start = self.find(point, day)?;
-        if self.memory.words[start] == MISSING || hour < 1 || hour > 24 {
+        if self.words[start] == MISSING || !(1..=24).contains(&hour) {
             return None;
         }
-        Some(decode(self.memory.words[start + (hour - 1) as usize]))
+        Some(decode(self.words[start + (hour - 1) as usize]))
     }
 }
 
@@ -154,11 +137,11 @@ impl<'a> SheetStore for FullTable<'a> {
     fn post(&mut self, sheet: Sheet) -> Result<(), Refusal>
         ensures result { result ≡ verdict (table_of self.old) sheet }
         ensures after { table_of self.new ≡ after_post (table_of self.old) sheet }
-        ensures words { words_of self.new ≡ (if is_ok result then with_day (words_of self.old) (offset self.old.days sheet.point sheet.day) sheet.readings else words_of self.old) }
+        ensures words { words_of self.new ≡ (if is_ok result then with_day (words_of self.old) (offset self.old.extent.days sheet.point sheet.day) sheet.readings else words_of self.old) }
     {
-        check_sheet(self.points, self.days, &sheet)?;
+        check_sheet(self.extent.points, self.extent.days, &sheet)?;
         if let Some(start) = self.find(sheet.point, sheet.day) {
-            self.memory.store(start, &sheet.readings);
+            store_day(self.words, start, &sheet.readings);
         }
         Ok(())
     }

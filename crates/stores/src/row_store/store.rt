@@ -7,6 +7,7 @@ ghost use Rattle.stores.specs.Stores.{rows_of, used_rows};
 ghost use Rattle.stores.specs.RowLaws.{rows_sound};
 
 use super::{Row, RowStore};
+use crate::extent::Extent;
 use crate::room::check_room;
 use readings::readings::{Readings, SheetStore};
 use tariff::reading::{Reading, Sheet, check_sheet};
@@ -16,7 +17,7 @@ impl Row {
     fn is_for(&self, point: u32, day: u32) -> bool
         ensures { result ≡ matches point day self.now }
     {
-        self.point == point && self.day == day
+        (point, day) == (self.point, self.day)
     }
 }
 
@@ -24,12 +25,9 @@ impl Row {
 fn find_row(rows: &[Row], point: u32, day: u32) -> usize
     ensures { result ≡ place_of point day rows.now }
 {
-    for (i, row) in rows.iter().enumerate() {
-        if row.is_for(point, day) {
-            return i;
-        }
-    }
-    rows.len()
+    rows.iter()
+        .position(|row| row.is_for(point, day))
+        .unwrap_or(rows.len())
 }
 
 impl<'a> RowStore<'a> {
@@ -37,7 +35,7 @@ impl<'a> RowStore<'a> {
     fn find(&self, point: u32, day: u32) -> usize
         ensures { result ≡ place_of point day (used_rows self.now) }
     {
-        find_row(&self.rows[0..self.used], point, day)
+        find_row(&self.rows[..self.used], point, day)
     }
 
     // Whether the rows are enough for a month of the points.
@@ -56,15 +54,13 @@ impl<'a> RowStore<'a> {
     {
         if RowStore::check(points, days, memory.len()).is_err() {
             return RowStore {
-                points: 0,
-                days: 0,
+                extent: Extent::NONE,
                 used: 0,
                 rows: memory,
             };
         }
         RowStore {
-            points,
-            days,
+            extent: Extent { points, days },
             used: 0,
             rows: memory,
         }
@@ -74,14 +70,14 @@ impl<'a> RowStore<'a> {
 impl<'a> Readings for RowStore<'a> {
     ghost meaning = { rows_of };
 
-    ghost sound = { λ s. rows_sound s.points s.days (used_rows s) (used_rows s) s.ok };
+    ghost sound = { λ s. rows_sound s.extent.points s.extent.days (used_rows s) (used_rows s) s.ok };
 
     fn points(&self) -> u32 {
-        self.points
+        self.extent.points
     }
 
     fn days(&self) -> u32 {
-        self.days
+        self.extent.days
     }
 
     fn has_sheet(&self, point: u32, day: u32) -> bool {
@@ -90,7 +86,7 @@ impl<'a> Readings for RowStore<'a> {
 
     fn reading(&self, point: u32, day: u32, hour: u32) -> Option<Reading> {
         let i = self.find(point, day);
-        if i >= self.used || hour < 1 || hour > 24 {
+        if i >= self.used || !(1..=24).contains(&hour) {
             return None;
         }
         Some(self.rows[i].readings[(hour - 1) as usize])
@@ -106,7 +102,7 @@ impl<'a> SheetStore for RowStore<'a> {
         ensures rows { self.new.rows.now ≡ (if is_ok result then slice_set self.old.rows.now (place_of sheet.point sheet.day (used_rows self.old)) (row_of sheet) else self.old.rows.now) }
         ensures lender { self.new.rows.ghost_name ≡ self.old.rows.ghost_name }
     {
-        check_sheet(self.points, self.days, &sheet)?;
+        check_sheet(self.extent.points, self.extent.days, &sheet)?;
         let i = self.find(sheet.point, sheet.day);
         self.rows[i] = Row {
             point: sheet.point,

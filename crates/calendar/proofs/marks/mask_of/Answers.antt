@@ -1,28 +1,24 @@
-use Rattle.std.proofs.Common.{◌≡◌, ◌+◌, ◌^◌, ◌≤◌, min, sym, subst, lt_of_lt_of_le, arith, pow_mono}
-use Rattle.calendar.specs.Marks.{MarksJust}
-use Rattle.calendar.proofs.Picked.{none_marked, day_more}
-use Rattle.calendar.proofs.marks.mask_of.Given as given
+use Rattle.std.proofs.Common.{◌∙◌, sym, arith}
+use Rattle.calendar.proofs.Picked.{marks_same, day_marked, day_unmarked}
 use Rattle.calendar.proofs.marks.mask_of.Goals as goal
+use Rattle.calendar.proofs.marks.mask_of.Goals.{then-picks_day, else-picks_day}
 
-one_more : (g : given.Over) (c : goal.After-bit_if-mask g) → MarksJust (c.loop-k.k + 1) (g.D.DayRule.picks c.args.rule.now) (c.loop-k.mask + c.bit_if-mask.result)
-one_more g c =
-    let picks = g.D.DayRule.picks c.args.rule.now in
-    subst (λ n. MarksJust (c.loop-k.k + 1) picks (c.loop-k.mask + n)) (sym c.bit_if-mask.ensures)
-    (day_more c.loop-k.k c.loop-k.mask c.loop-k.invariant.fits picks c.picks_day.result c.picks_day.ensures c.loop-k.invariant.days)
-
-pub overflow_add-mask : goal.overflow_add-mask
-overflow_add-mask g c =
-    let few : c.loop-k.k + 1 ≤ 32 = omega arith in
-    let wide : 2 ^ (c.loop-k.k + 1) ≤ 2 ^ 32 = pow_mono few in
-    record { fits = lt_of_lt_of_le (one_more g c).fits wide }
-
-pub loop-k-init : goal.loop-k-init
-loop-k-init g c = none_marked (g.D.DayRule.picks c.args.rule.now)
-
-pub loop-k-preserved : goal.loop-k-preserved
-loop-k-preserved g c = one_more g c
+pub loop-day-preserved : goal.loop-day-preserved
+loop-day-preserved g c = record {
+  days = omega arith;
+  marks =
+      elim c.if-picks_day.branch [
+        | then-picks_day w ↦ rw w.mask-is (day_marked _ (omega arith) (omega arith) (omega arith) c.loop-day.invariant.marks (sym w.if-picks_day.true ∙ c.picks_day.ensures))
+        | else-picks_day w ↦ rw w.mask-is (day_unmarked _ (omega arith) (omega arith) (omega arith) c.loop-day.invariant.marks (sym w.if-picks_day.false ∙ c.picks_day.ensures))
+      ];
+}
 
 pub returns : goal.returns
-returns g c =
-    let all : c.loop-k.k ≡ min c.args.days 32 = omega arith in
-    subst (λ n. MarksJust n (g.D.DayRule.picks c.args.rule.now) c.loop-k.mask) all c.loop-k.invariant
+returns g c = marks_same _ _ (omega arith) c.loop-day.invariant.marks
+
+pub returns-after-picks_day : goal.returns-after-picks_day
+returns-after-picks_day g c =
+    elim c.if-picks_day.branch [
+      | then-picks_day w ↦ rw w.mask-is (day_marked _ (omega arith) (omega arith) (omega arith) c.loop-day.invariant.marks (sym w.if-picks_day.true ∙ c.picks_day.ensures))
+      | else-picks_day w ↦ rw w.mask-is (day_unmarked _ (omega arith) (omega arith) (omega arith) c.loop-day.invariant.marks (sym w.if-picks_day.false ∙ c.picks_day.ensures))
+    ]

@@ -1,12 +1,14 @@
-use Rattle.std.proofs.Common.{sym, ◌∙◌, arith}
-use Rattle.stores.proofs.RowPlaces.{place_here, place_later, place_end}
+use Rattle.std.proofs.Common.{◌∙◌, length, ap, rules, tests}
+use Rattle.std.specs.Option.{unwrap_or}
+use Rattle.std.proofs.lemmas.Iterator.{YieldsList-from_slice}
+use Rattle.std.proofs.lemmas.Iterator.Search.{position_from_yields_List}
+use Rattle.stores.specs.Rows.{matches}
+use Rattle.stores.proofs.RowPlaces.{place_first}
 use Rattle.stores.proofs.row_store.store.find_row.Goals as goal
 
-pub returns-then-is_for : goal.returns-then-is_for
-returns-then-is_for c = omega (arith, c.loop-i.invariant, place_here c.args.point c.args.day c.args.rows.now c.loop-i.i _ c.loop-i-test.true (sym c.if-is_for.ensures))
-
-pub loop-i-preserved : goal.loop-i-preserved
-loop-i-preserved c = sym (place_later c.args.point c.args.day c.args.rows.now c.loop-i.i _ c.loop-i-test.true (sym c.if-is_for.ensures)) ∙ c.loop-i.invariant
-
 pub returns : goal.returns
-returns c = omega (arith, c.loop-i.invariant, place_end c.args.point c.args.day c.args.rows.now c.loop-i.i (omega arith))
+returns c =
+    let xs = c.args.rows.now in
+    let found = position_from_yields_List (matches c.args.point c.args.day) _ _ c.position.result c.position.ensures.ran
+    (YieldsList-from_slice xs cc) (λ x b q k. search (rules, tests)) in
+    c.unwrap_or.ensures ∙ ap (λ o. unwrap_or o (length xs)) found ∙ place_first c.args.point c.args.day xs

@@ -1,18 +1,11 @@
-use Rattle.std.proofs.Common.{length, sym, ap, ◌∙◌, arith}
+use Rattle.std.proofs.Common.{sym, ap, ◌∙◌, arith}
 use Rattle.stores.specs.Words.{table, with_day}
 use Rattle.stores.proofs.Passing.{judged_ok}
 use Rattle.stores.proofs.TablePosts.{found_at, table_after}
-use Rattle.stores.proofs.Tables.{length_with_day}
 use Rattle.stores.proofs.full_table.store.FullTableSheetStore.post.Goals as goal
 
-pub store-requires : goal.store-requires
-store-requires c = (c.in-Some.ensures.bound, (judged_ok c.args.self.now.points c.args.self.now.days c.args.sheet (sym c.in_ok-check_sheet.ensures)).allowed)
-
-pub invariant_of-self : goal.invariant_of-self
-invariant_of-self c =
-    let s = c.args.self.now in
-    let same = ap length c.store.ensures ∙ length_with_day s.memory.words.now c.in-Some.start c.args.sheet.readings (omega arith) c.in-Some.ensures.bound in
-    record { limit = s.limit; month = s.month; fits = omega (arith, same, s.fits) }
+pub store_day-requires : goal.store_day-requires
+store_day-requires c = (c.in-Some.ensures.bound, (judged_ok c.args.self.now.extent.points c.args.self.now.extent.days c.args.sheet (sym c.in_ok-check_sheet.ensures)).allowed)
 
 pub returns-in-Some : goal.returns-in-Some
 returns-in-Some c =
@@ -20,7 +13,7 @@ returns-in-Some c =
     record {
       result = c.in_ok-check_sheet.ensures;
       after =
-          ap (table s.points s.days) c.store.ensures
-          ∙ table_after s.points s.days s.memory.words.now c.args.sheet c.in-Some.start s.fits (omega arith) c.in_ok-check_sheet.ensures c.in-Some.ensures.value;
-      words = c.store.ensures ∙ ap (λ o. with_day s.memory.words.now o c.args.sheet.readings) (found_at s.points s.days c.args.sheet.point c.args.sheet.day c.in-Some.start c.in-Some.ensures.value).1;
+          ap (table s.extent.points s.extent.days) c.store_day.ensures
+          ∙ table_after s.extent.points s.extent.days s.words.now c.args.sheet c.in-Some.start s.fits (omega arith) c.in_ok-check_sheet.ensures c.in-Some.ensures.value;
+      words = c.store_day.ensures ∙ ap (λ o. with_day s.words.now o c.args.sheet.readings) (found_at s.extent.points s.extent.days c.args.sheet.point c.args.sheet.day c.in-Some.start c.in-Some.ensures.value).1;
     }

@@ -4,4 +4,4 @@ use Rattle.stores.proofs.row_store.store.RowStoreReadings.has_sheet.Goals as goa
 pub returns : goal.returns
 returns c =
     let s = c.args.self.now in
-    rows_has s.points s.days s.used s.rows.now c.args.point c.args.day c.find.result s.filled c.find.ensures
+    rows_has s.extent.points s.extent.days s.used s.rows.now c.args.point c.args.day c.find.result s.filled c.find.ensures
