@@ -2,4 +2,4 @@ pub mod Capping
 pub mod Naming
 pub mod Masking
 pub mod Getting
-pub mod Calling
+pub mod Tables

@@ -29,7 +29,7 @@ pub data Said : Type 0 where
 
 abbrev pub said : Command → Said
 said (command.Month year month holidays summer) = Month year month holidays summer
-said (command.Point letter line transformation) = Point letter line transformation
+said (command.Point point) = Point point.letter point.line point.transformation
 said (command.Open store places) = Open store places
 said (command.Customer point from party) = Customer point from party
 said (command.Transmitter point from party) = Transmitter point from party

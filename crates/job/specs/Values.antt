@@ -25,16 +25,25 @@ look_up [] text = None
 look_up (e ∷ es) text = cond (is_word text e.0) (Some e.1) (look_up es text)
 
 -- the calls that set a month up, and the one that ends it
+abbrev pub state_words : List (List ℕ × Word)
+state_words = (codes "month", word.Month) ∷ (codes "point", word.Point) ∷ (codes "open", word.Open) ∷ (codes "close", word.Close) ∷ []
+
 abbrev pub state_word : List ℕ → Option Word
-state_word = look_up ((codes "month", word.Month) ∷ (codes "point", word.Point) ∷ (codes "open", word.Open) ∷ (codes "close", word.Close) ∷ [])
+state_word = look_up state_words
 
 -- those that enter something
+abbrev pub entry_words : List (List ℕ × Word)
+entry_words = (codes "customer", word.Customer) ∷ (codes "transmitter", word.Transmitter) ∷ (codes "service", word.Service) ∷ (codes "rates", word.Rates) ∷ (codes "sheet", word.Sheet) ∷ (codes "sheets", word.Sheets) ∷ []
+
 abbrev pub entry_word : List ℕ → Option Word
-entry_word = look_up ((codes "customer", word.Customer) ∷ (codes "transmitter", word.Transmitter) ∷ (codes "service", word.Service) ∷ (codes "rates", word.Rates) ∷ (codes "sheet", word.Sheet) ∷ (codes "sheets", word.Sheets) ∷ [])
+entry_word = look_up entry_words
 
 -- the call for a statement, and the questions
+abbrev pub answer_words : List (List ℕ × Word)
+answer_words = (codes "issue", word.Issue) ∷ (codes "credit", word.Credit) ∷ (codes "total", word.Total) ∷ (codes "peak", word.Peak) ∷ (codes "listing", word.Listing) ∷ []
+
 abbrev pub answer_word : List ℕ → Option Word
-answer_word = look_up ((codes "issue", word.Issue) ∷ (codes "credit", word.Credit) ∷ (codes "total", word.Total) ∷ (codes "peak", word.Peak) ∷ (codes "listing", word.Listing) ∷ [])
+answer_word = look_up answer_words
 
 -- the name of a call
 abbrev pub word_of : List ℕ → Option Word

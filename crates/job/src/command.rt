@@ -1,6 +1,8 @@
 // What a line of a job asks for.
+use std::fmt;
 use tariff::charge::Charge;
 use tariff::parties::{PartyNumber, Rates, Service};
+use tariff::points::Declaration;
 use tariff::statement::Statement;
 
 // How the sheets of a month are kept.
@@ -30,11 +32,7 @@ pub enum Command<'a> {
         holidays: u32,
         summer: u32,
     },
-    Point {
-        letter: u8,
-        line: bool,
-        transformation: bool,
-    },
+    Point(Declaration),
     Open {
         store: StoreKind,
         places: Option<Places>,
@@ -85,6 +83,16 @@ pub enum Malformed {
     UnknownCall,
     WrongCount,
     BadValue(u8),
+}
+
+impl fmt::Display for Malformed {
+    fn fmt<W: fmt::Write>(&self, f: &mut fmt::Formatter<W>) -> fmt::Result {
+        match *self {
+            Malformed::UnknownCall => f.write_str("there is no such call"),
+            Malformed::WrongCount => f.write_str("the call takes another number of values"),
+            Malformed::BadValue(place) => write!(f, "value {place} is malformed"),
+        }
+    }
 }
 
 // The name of a call.

@@ -26,7 +26,7 @@ impl DayRule for DayRange {
         if day == NO_SUCH_DAY {
             self.first < 1 || self.last > 31
         } else {
-            self.first <= day && day <= self.last
+            (self.first..=self.last).contains(&day)
         }
     }
 }
@@ -36,31 +36,22 @@ fn range_of(part: &[u8]) -> Option<DayRange>
     ensures { result ≡ range_of part.now }
 {
     let (text, others) = cut(part, b'-');
-    let Some(first) = whole(text) else {
-        return None;
-    };
+    let first = whole(text)?;
     if text.len() == part.len() {
         return Some(DayRange { first, last: first });
     }
-    let Some(last) = whole(others) else {
-        return None;
-    };
-    if last < first {
-        return None;
-    }
-    Some(DayRange { first, last })
+    let last = whole(others)?;
+    (first <= last).then_some(DayRange { first, last })
 }
 
 // The days of a list, a bit for each, the lowest for day 1; None where the text is no list of days.
+#[tactic(auto, using(crate::proofs::Naming::one_more))]
 pub fn day_mask(list: &[u8]) -> Option<u32>
     ensures { MatchOption result (ranges_of (parts 44 list.now) ≡ None) (Marks (ranges_of (parts 44 list.now))) }
 {
     let mut mask = 0;
-    let mut parts = Parts::new(list, b',');
-    while let Some(part) = parts.next_part() {
-        let Some(range) = range_of(part) else {
-            return None;
-        };
+    for part in Parts::new(list, b',') {
+        let range = range_of(part)?;
         mask |= mask_of(&range, NO_SUCH_DAY);
     }
     Some(mask)

@@ -9,12 +9,12 @@ pub fn whole(text: &[u8]) -> Option<u32>
     if text.is_empty() {
         return None;
     }
-    let mut n: u64 = 0;
+    let mut n: u32 = 0;
     for b in text {
         if !b.is_ascii_digit() {
             return None;
         }
-        n = (10 * n + u64::from(*b - b'0')).min(u32::MAX as u64);
+        n = n.saturating_mul(10).saturating_add(u32::from(*b - b'0'));
     }
-    Some(n as u32)
+    Some(n)
 }

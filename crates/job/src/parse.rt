@@ -1,27 +1,21 @@
 // One line of a job: a call's name and its values, with bars between.
-ghost use Rattle.std.specs.Prelude.{◌≡◌};
-ghost use Rattle.job.specs.Commands.{nth_value, told, takes_count, month_call, point_call, places_of, open_call, entry_of, customer_call, transmitter_call, service_call, rates_call, issue_call, credit_call, total_call, command_of, parsed};
+ghost use Rattle.std.specs.Prelude.{◌≡◌, ◌∷◌, [], map, Ok};
+ghost use Rattle.job.specs.Commands.{nth_value, told, takes_count, month_call, point_call, places_of, open_call, entry_of, service_call, rates_call, credit_call, total_call, command_of, parsed};
+ghost use Rattle.job.specs.Said.{said};
 
+use crate::command::Malformed::BadValue;
 use crate::command::{Command, Malformed, Places, Word};
 use crate::days::days_of;
 use crate::numbers::whole;
-use crate::point_list::marks;
-use crate::values::{charge_of, credit_of, from_of, service_of, statement_of, store_of, word_of};
+use crate::point_list::{NO_POINT, marks};
+use crate::values::{
+    charge_of, credit_of, from_of, party_of, service_of, statement_of, store_of, word_of,
+};
 use tariff::parties::{PartyNumber, Rates};
+use tariff::points::Declaration;
 use text::cuts::{count_marks, cut};
 
 const BAR: u8 = b'|';
-
-// The first six values after a call's name; one that is not there is empty.
-#[derive(Clone, Copy)]
-struct Values<'a> {
-    first: &'a [u8],
-    second: &'a [u8],
-    third: &'a [u8],
-    fourth: &'a [u8],
-    fifth: &'a [u8],
-    sixth: &'a [u8],
-}
 
 // Who is on record for a point, and from when on.
 #[derive(Clone, Copy)]
@@ -31,13 +25,9 @@ pub(crate) struct Entry {
     party: PartyNumber,
 }
 
-fn first_six(rest: &[u8]) -> Values<'_>
-    ensures first { result.first.now ≡ nth_value 0 rest.now }
-    ensures second { result.second.now ≡ nth_value 1 rest.now }
-    ensures third { result.third.now ≡ nth_value 2 rest.now }
-    ensures fourth { result.fourth.now ≡ nth_value 3 rest.now }
-    ensures fifth { result.fifth.now ≡ nth_value 4 rest.now }
-    ensures sixth { result.sixth.now ≡ nth_value 5 rest.now }
+// The first six values after a call's name; one that is not there is empty.
+fn first_six(rest: &[u8]) -> [&[u8]; 6]
+    ensures { map (λ v. v.now) result ≡ nth_value 0 rest.now ∷ nth_value 1 rest.now ∷ nth_value 2 rest.now ∷ nth_value 3 rest.now ∷ nth_value 4 rest.now ∷ nth_value 5 rest.now ∷ [] }
 {
     let (first, others) = cut(rest, BAR);
     let (second, others) = cut(others, BAR);
@@ -45,14 +35,7 @@ fn first_six(rest: &[u8]) -> Values<'_>
     let (fourth, others) = cut(others, BAR);
     let (fifth, others) = cut(others, BAR);
     let (sixth, _) = cut(others, BAR);
-    Values {
-        first,
-        second,
-        third,
-        fourth,
-        fifth,
-        sixth,
-    }
+    [first, second, third, fourth, fifth, sixth]
 }
 
 // Whether a call takes so many values.
@@ -70,242 +53,135 @@ fn takes(word: Word, count: usize) -> bool
     }
 }
 
-fn read_month<'a>(values: Values) -> Result<Command<'a>, Malformed>
-    ensures { told result ≡ month_call values.entry.first.now values.entry.second.now values.entry.third.now values.entry.fourth.now }
+fn read_month<'a>(
+    year: &[u8],
+    month: &[u8],
+    holidays: &[u8],
+    summer: &[u8],
+) -> Result<Command<'a>, Malformed>
+    ensures { told result ≡ month_call year.now month.now holidays.now summer.now }
 {
-    let Some(year) = whole(values.first) else {
-        return Err(Malformed::BadValue(1));
-    };
-    let Some(month) = whole(values.second) else {
-        return Err(Malformed::BadValue(2));
-    };
-    let Some(holidays) = days_of(values.third) else {
-        return Err(Malformed::BadValue(3));
-    };
-    let Some(summer) = days_of(values.fourth) else {
-        return Err(Malformed::BadValue(4));
-    };
     Ok(Command::Month {
-        year,
-        month,
-        holidays,
-        summer,
+        year: whole(year).ok_or(BadValue(1))?,
+        month: whole(month).ok_or(BadValue(2))?,
+        holidays: days_of(holidays).ok_or(BadValue(3))?,
+        summer: days_of(summer).ok_or(BadValue(4))?,
     })
 }
 
-// A letter, and L, T or LT where there is a second value. What is not so written gets a letter that no kind has,
+// A letter, and L, T or LT where there is a second value. What is not so written is a point that no kind fits,
 // so that the call refuses it.
-fn read_point<'a>(count: usize, values: Values) -> Result<Command<'a>, Malformed>
-    ensures { told result ≡ point_call count values.entry.first.now values.entry.second.now }
+fn read_point<'a>(count: usize, letter: &[u8], others: &[u8]) -> Command<'a>
+    ensures { Ok (said result) ≡ point_call count letter.now others.now }
 {
-    let no_kind = Command::Point {
-        letter: 0,
-        line: false,
-        transformation: false,
-    };
-    let [letter] = values.first else {
-        return Ok(no_kind);
-    };
-    let Some((line, transformation)) = marks(values.second) else {
-        return Ok(no_kind);
-    };
-    if count == 2 && !line && !transformation {
-        return Ok(no_kind);
-    }
-    Ok(Command::Point {
-        letter: *letter,
-        line,
-        transformation,
-    })
-}
-
-fn read_places(values: Values) -> Result<Places, Malformed>
-    ensures { result ≡ places_of values.entry.second.now values.entry.third.now values.entry.fourth.now values.entry.fifth.now values.entry.sixth.now }
-{
-    let Some(customers) = whole(values.second) else {
-        return Err(Malformed::BadValue(2));
-    };
-    let Some(transmitters) = whole(values.third) else {
-        return Err(Malformed::BadValue(3));
-    };
-    let Some(service) = whole(values.fourth) else {
-        return Err(Malformed::BadValue(4));
-    };
-    let Some(rates) = whole(values.fifth) else {
-        return Err(Malformed::BadValue(5));
-    };
-    let Some(ledger) = whole(values.sixth) else {
-        return Err(Malformed::BadValue(6));
-    };
-    Ok(Places {
-        customers,
-        transmitters,
-        service,
-        rates,
-        ledger,
-    })
-}
-
-fn read_open<'a>(count: usize, values: Values) -> Result<Command<'a>, Malformed>
-    ensures { told result ≡ open_call count values.entry.first.now (places_of values.entry.second.now values.entry.third.now values.entry.fourth.now values.entry.fifth.now values.entry.sixth.now) }
-{
-    let Some(store) = store_of(values.first) else {
-        return Err(Malformed::BadValue(1));
-    };
-    if count == 1 {
-        return Ok(Command::Open {
-            store,
-            places: None,
-        });
-    }
-    match read_places(values) {
-        Ok(places) => Ok(Command::Open {
-            store,
-            places: Some(places),
-        }),
-        Err(fault) => Err(fault),
-    }
-}
-
-fn read_entry(values: Values) -> Result<Entry, Malformed>
-    ensures { result ≡ entry_of values.entry.first.now values.entry.second.now values.entry.third.now }
-{
-    let Some(point) = whole(values.first) else {
-        return Err(Malformed::BadValue(1));
-    };
-    let Some(from_day) = from_of(values.second) else {
-        return Err(Malformed::BadValue(2));
-    };
-    let Some(number) = whole(values.third) else {
-        return Err(Malformed::BadValue(3));
-    };
-    Ok(Entry {
-        point,
-        from_day,
-        party: PartyNumber { number },
-    })
-}
-
-fn read_customer<'a>(values: Values) -> Result<Command<'a>, Malformed>
-    ensures { told result ≡ customer_call (entry_of values.entry.first.now values.entry.second.now values.entry.third.now) }
-{
-    match read_entry(values) {
-        Ok(entry) => Ok(Command::Customer {
-            point: entry.point,
-            from_day: entry.from_day,
-            party: entry.party,
-        }),
-        Err(fault) => Err(fault),
-    }
-}
-
-fn read_transmitter<'a>(values: Values) -> Result<Command<'a>, Malformed>
-    ensures { told result ≡ transmitter_call (entry_of values.entry.first.now values.entry.second.now values.entry.third.now) }
-{
-    match read_entry(values) {
-        Ok(entry) => Ok(Command::Transmitter {
-            point: entry.point,
-            from_day: entry.from_day,
-            party: entry.party,
-        }),
-        Err(fault) => Err(fault),
-    }
-}
-
-fn read_service<'a>(values: Values) -> Result<Command<'a>, Malformed>
-    ensures { told result ≡ service_call values.entry.first.now values.entry.second.now values.entry.third.now }
-{
-    let Some(point) = whole(values.first) else {
-        return Err(Malformed::BadValue(1));
-    };
-    let Some(from_day) = from_of(values.second) else {
-        return Err(Malformed::BadValue(2));
-    };
-    let Some(service) = service_of(values.third) else {
-        return Err(Malformed::BadValue(3));
-    };
-    Ok(Command::Service {
-        point,
-        from_day,
-        service,
-    })
-}
-
-fn read_rates<'a>(values: Values) -> Result<Command<'a>, Malformed>
-    ensures { told result ≡ rates_call values.entry.first.now values.entry.second.now values.entry.third.now values.entry.fourth.now }
-{
-    let Some(from_day) = from_of(values.first) else {
-        return Err(Malformed::BadValue(1));
-    };
-    let Some(network) = whole(values.second) else {
-        return Err(Malformed::BadValue(2));
-    };
-    let Some(line) = whole(values.third) else {
-        return Err(Malformed::BadValue(3));
-    };
-    let Some(transformation) = whole(values.fourth) else {
-        return Err(Malformed::BadValue(4));
-    };
-    Ok(Command::Rates {
-        from_day,
-        rates: Rates {
-            network,
+    let point = match (letter, marks(others)) {
+        ([_], Some((false, false))) if count == 2 => NO_POINT,
+        ([letter], Some((line, transformation))) => Declaration {
+            letter: *letter,
             line,
             transformation,
         },
+        _ => NO_POINT,
+    };
+    Command::Point(point)
+}
+
+fn read_places(
+    customers: &[u8],
+    transmitters: &[u8],
+    service: &[u8],
+    rates: &[u8],
+    ledger: &[u8],
+) -> Result<Places, Malformed>
+    ensures { result ≡ places_of customers.now transmitters.now service.now rates.now ledger.now }
+{
+    Ok(Places {
+        customers: whole(customers).ok_or(BadValue(2))?,
+        transmitters: whole(transmitters).ok_or(BadValue(3))?,
+        service: whole(service).ok_or(BadValue(4))?,
+        rates: whole(rates).ok_or(BadValue(5))?,
+        ledger: whole(ledger).ok_or(BadValue(6))?,
     })
 }
 
-fn read_issue<'a>(text: &[u8]) -> Result<Command<'a>, Malformed>
-    ensures { told result ≡ issue_call text.now }
+// A store, and places where there are values for them.
+fn read_open<'a>(
+    count: usize,
+    store: &[u8],
+    places: Result<Places, Malformed>,
+) -> Result<Command<'a>, Malformed>
+    ensures { told result ≡ open_call count store.now places }
 {
-    let Some(statement) = statement_of(text) else {
-        return Err(Malformed::BadValue(1));
-    };
-    Ok(Command::Issue(statement))
+    let store = store_of(store).ok_or(BadValue(1))?;
+    let places = if count == 1 { None } else { Some(places?) };
+    Ok(Command::Open { store, places })
 }
 
-fn read_credit<'a>(values: Values) -> Result<Command<'a>, Malformed>
-    ensures { told result ≡ credit_call values.entry.first.now values.entry.second.now values.entry.third.now }
+fn read_entry(point: &[u8], from_day: &[u8], party: &[u8]) -> Result<Entry, Malformed>
+    ensures { result ≡ entry_of point.now from_day.now party.now }
 {
-    let Some(statement) = statement_of(values.first) else {
-        return Err(Malformed::BadValue(1));
-    };
-    let Some(charge) = credit_of(values.second) else {
-        return Err(Malformed::BadValue(2));
-    };
-    let Some(number) = whole(values.third) else {
-        return Err(Malformed::BadValue(3));
-    };
-    Ok(Command::Credit {
-        statement,
-        charge,
-        transmitter: PartyNumber { number },
+    Ok(Entry {
+        point: whole(point).ok_or(BadValue(1))?,
+        from_day: from_of(from_day).ok_or(BadValue(2))?,
+        party: party_of(party).ok_or(BadValue(3))?,
     })
 }
 
-fn read_total<'a>(values: Values) -> Result<Command<'a>, Malformed>
-    ensures { told result ≡ total_call values.entry.first.now values.entry.second.now values.entry.third.now values.entry.fourth.now }
+fn read_service<'a>(point: &[u8], from_day: &[u8], service: &[u8]) -> Result<Command<'a>, Malformed>
+    ensures { told result ≡ service_call point.now from_day.now service.now }
 {
-    let Some(point) = whole(values.first) else {
-        return Err(Malformed::BadValue(1));
-    };
-    let Some(charge) = charge_of(values.second) else {
-        return Err(Malformed::BadValue(2));
-    };
-    let Some(customer) = whole(values.third) else {
-        return Err(Malformed::BadValue(3));
-    };
-    let Some(transmitter) = whole(values.fourth) else {
-        return Err(Malformed::BadValue(4));
-    };
-    Ok(Command::Total {
-        point,
-        charge,
-        customer: PartyNumber { number: customer },
-        transmitter: PartyNumber {
-            number: transmitter,
+    Ok(Command::Service {
+        point: whole(point).ok_or(BadValue(1))?,
+        from_day: from_of(from_day).ok_or(BadValue(2))?,
+        service: service_of(service).ok_or(BadValue(3))?,
+    })
+}
+
+fn read_rates<'a>(
+    from_day: &[u8],
+    network: &[u8],
+    line: &[u8],
+    transformation: &[u8],
+) -> Result<Command<'a>, Malformed>
+    ensures { told result ≡ rates_call from_day.now network.now line.now transformation.now }
+{
+    Ok(Command::Rates {
+        from_day: from_of(from_day).ok_or(BadValue(1))?,
+        rates: Rates {
+            network: whole(network).ok_or(BadValue(2))?,
+            line: whole(line).ok_or(BadValue(3))?,
+            transformation: whole(transformation).ok_or(BadValue(4))?,
         },
+    })
+}
+
+fn read_credit<'a>(
+    statement: &[u8],
+    charge: &[u8],
+    transmitter: &[u8],
+) -> Result<Command<'a>, Malformed>
+    ensures { told result ≡ credit_call statement.now charge.now transmitter.now }
+{
+    Ok(Command::Credit {
+        statement: statement_of(statement).ok_or(BadValue(1))?,
+        charge: credit_of(charge).ok_or(BadValue(2))?,
+        transmitter: party_of(transmitter).ok_or(BadValue(3))?,
+    })
+}
+
+fn read_total<'a>(
+    point: &[u8],
+    charge: &[u8],
+    customer: &[u8],
+    transmitter: &[u8],
+) -> Result<Command<'a>, Malformed>
+    ensures { told result ≡ total_call point.now charge.now customer.now transmitter.now }
+{
+    Ok(Command::Total {
+        point: whole(point).ok_or(BadValue(1))?,
+        charge: charge_of(charge).ok_or(BadValue(2))?,
+        customer: party_of(customer).ok_or(BadValue(3))?,
+        transmitter: party_of(transmitter).ok_or(BadValue(4))?,
     })
 }
 
@@ -313,20 +189,42 @@ fn read_total<'a>(values: Values) -> Result<Command<'a>, Malformed>
 fn command<'a>(word: Word, count: usize, rest: &'a [u8]) -> Result<Command<'a>, Malformed>
     ensures { told result ≡ command_of word count rest.now }
 {
-    let values = first_six(rest);
+    let [a, b, c, d, e, f] = first_six(rest);
     match word {
-        Word::Month => read_month(values),
-        Word::Point => read_point(count, values),
-        Word::Open => read_open(count, values),
-        Word::Customer => read_customer(values),
-        Word::Transmitter => read_transmitter(values),
-        Word::Service => read_service(values),
-        Word::Rates => read_rates(values),
+        Word::Month => read_month(a, b, c, d),
+        Word::Point => Ok(read_point(count, a, b)),
+        Word::Open => read_open(count, a, read_places(b, c, d, e, f)),
+        Word::Customer => {
+            let Entry {
+                point,
+                from_day,
+                party,
+            } = read_entry(a, b, c)?;
+            Ok(Command::Customer {
+                point,
+                from_day,
+                party,
+            })
+        }
+        Word::Transmitter => {
+            let Entry {
+                point,
+                from_day,
+                party,
+            } = read_entry(a, b, c)?;
+            Ok(Command::Transmitter {
+                point,
+                from_day,
+                party,
+            })
+        }
+        Word::Service => read_service(a, b, c),
+        Word::Rates => read_rates(a, b, c, d),
         Word::Sheet => Ok(Command::Sheet(rest)),
-        Word::Sheets => Ok(Command::Sheets(values.first)),
-        Word::Issue => read_issue(values.first),
-        Word::Credit => read_credit(values),
-        Word::Total => read_total(values),
+        Word::Sheets => Ok(Command::Sheets(a)),
+        Word::Issue => Ok(Command::Issue(statement_of(a).ok_or(BadValue(1))?)),
+        Word::Credit => read_credit(a, b, c),
+        Word::Total => read_total(a, b, c, d),
         Word::Peak => Ok(Command::Peak),
         Word::Listing => Ok(Command::Listing),
         Word::Close => Ok(Command::Close),
@@ -338,9 +236,7 @@ pub fn parse(line: &[u8]) -> Result<Command<'_>, Malformed>
     ensures { told result ≡ parsed line.now }
 {
     let (name, rest) = cut(line, BAR);
-    let Some(word) = word_of(name) else {
-        return Err(Malformed::UnknownCall);
-    };
+    let word = word_of(name).ok_or(Malformed::UnknownCall)?;
     let count = count_marks(line, BAR);
     if !takes(word, count) {
         return Err(Malformed::WrongCount);

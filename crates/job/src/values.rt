@@ -1,171 +1,124 @@
 // One value of a line.
-ghost use Rattle.std.specs.Prelude.{◌≡◌};
+ghost use Rattle.std.specs.Prelude.{◌≡◌, map};
+ghost use Rattle.std.specs.Option.{option_map};
 ghost use Rattle.calendar.specs.Dates.{is_date};
-ghost use Rattle.job.specs.Values.{is_word, state_word, entry_word, answer_word, word_of, statement_of, charge_of, credit_of, store_of, service_of, day_of, date_of, from_of};
+ghost use Rattle.job.specs.Numbers.{whole_of};
+ghost use Rattle.job.specs.Commands.{party_of};
+ghost use Rattle.job.specs.Values.{look_up, word_of, statement_of, charge_of, credit_of, store_of, service_of, day_of, date_of, from_of};
 
 use crate::command::{StoreKind, Word};
 use crate::numbers::whole;
 use calendar::dates;
 use tariff::charge::Charge;
-use tariff::parties::Service;
+use tariff::parties::{PartyNumber, Service};
 use tariff::statement::Statement;
 
-// Whether a text is a word.
-fn is(text: &[u8], word: &[u8]) -> bool
-    ensures { result ≡ is_word text.now word.now }
+// What a table has for a text. It is walked by hand: of what `find` answers no proof has shown that it is the first.
+#[tactic(auto, unfolding(crate::specs::Values::is_word))]
+fn look_up<T: Copy>(table: &[(&[u8], T)], text: &[u8]) -> Option<T>
+    ensures { result ≡ look_up (map (λ e. (e.0.now, e.1)) table.now) text.now }
 {
-    text == word
+    for (name, value) in table {
+        if text == *name {
+            return Some(*value);
+        }
+    }
+    None
 }
 
-// The calls that set a month up, and the one that ends it.
-fn state_word(text: &[u8]) -> Option<Word>
-    ensures { result ≡ state_word text.now }
-{
-    if is(text, b"month") {
-        Some(Word::Month)
-    } else if is(text, b"point") {
-        Some(Word::Point)
-    } else if is(text, b"open") {
-        Some(Word::Open)
-    } else if is(text, b"close") {
-        Some(Word::Close)
-    } else {
-        None
-    }
-}
-
-// The calls that enter something.
-fn entry_word(text: &[u8]) -> Option<Word>
-    ensures { result ≡ entry_word text.now }
-{
-    if is(text, b"customer") {
-        Some(Word::Customer)
-    } else if is(text, b"transmitter") {
-        Some(Word::Transmitter)
-    } else if is(text, b"service") {
-        Some(Word::Service)
-    } else if is(text, b"rates") {
-        Some(Word::Rates)
-    } else if is(text, b"sheet") {
-        Some(Word::Sheet)
-    } else if is(text, b"sheets") {
-        Some(Word::Sheets)
-    } else {
-        None
-    }
-}
-
-// The call for a statement, and the questions.
-fn answer_word(text: &[u8]) -> Option<Word>
-    ensures { result ≡ answer_word text.now }
-{
-    if is(text, b"issue") {
-        Some(Word::Issue)
-    } else if is(text, b"credit") {
-        Some(Word::Credit)
-    } else if is(text, b"total") {
-        Some(Word::Total)
-    } else if is(text, b"peak") {
-        Some(Word::Peak)
-    } else if is(text, b"listing") {
-        Some(Word::Listing)
-    } else {
-        None
-    }
-}
+const WORDS: [(&[u8], Word); 15] = [
+    (b"month", Word::Month),
+    (b"point", Word::Point),
+    (b"open", Word::Open),
+    (b"close", Word::Close),
+    (b"customer", Word::Customer),
+    (b"transmitter", Word::Transmitter),
+    (b"service", Word::Service),
+    (b"rates", Word::Rates),
+    (b"sheet", Word::Sheet),
+    (b"sheets", Word::Sheets),
+    (b"issue", Word::Issue),
+    (b"credit", Word::Credit),
+    (b"total", Word::Total),
+    (b"peak", Word::Peak),
+    (b"listing", Word::Listing),
+];
 
 // The name of a call.
 pub(crate) fn word_of(text: &[u8]) -> Option<Word>
     ensures { result ≡ word_of text.now }
 {
-    if let Some(word) = state_word(text) {
-        return Some(word);
-    }
-    if let Some(word) = entry_word(text) {
-        return Some(word);
-    }
-    answer_word(text)
+    look_up(&WORDS, text)
 }
+
+const STATEMENTS: [(&[u8], Statement); 9] = [
+    (b"P", Statement::P),
+    (b"F", Statement::F),
+    (b"R1", Statement::R1),
+    (b"R2", Statement::R2),
+    (b"R3", Statement::R3),
+    (b"R4", Statement::R4),
+    (b"R5", Statement::R5),
+    (b"R6", Statement::R6),
+    (b"RF", Statement::RF),
+];
 
 pub(crate) fn statement_of(text: &[u8]) -> Option<Statement>
     ensures { result ≡ statement_of text.now }
 {
-    if is(text, b"P") {
-        Some(Statement::P)
-    } else if is(text, b"F") {
-        Some(Statement::F)
-    } else if is(text, b"R1") {
-        Some(Statement::R1)
-    } else if is(text, b"R2") {
-        Some(Statement::R2)
-    } else if is(text, b"R3") {
-        Some(Statement::R3)
-    } else if is(text, b"R4") {
-        Some(Statement::R4)
-    } else if is(text, b"R5") {
-        Some(Statement::R5)
-    } else if is(text, b"R6") {
-        Some(Statement::R6)
-    } else if is(text, b"RF") {
-        Some(Statement::RF)
-    } else {
-        None
-    }
+    look_up(&STATEMENTS, text)
 }
+
+const BILLED: [(&[u8], Charge); 3] = [
+    (b"650", Charge::Network),
+    (b"651", Charge::Line),
+    (b"652", Charge::Transformation),
+];
 
 // A charge by the number under which it is billed.
 pub(crate) fn charge_of(text: &[u8]) -> Option<Charge>
     ensures { result ≡ charge_of text.now }
 {
-    if is(text, b"650") {
-        Some(Charge::Network)
-    } else if is(text, b"651") {
-        Some(Charge::Line)
-    } else if is(text, b"652") {
-        Some(Charge::Transformation)
-    } else {
-        None
-    }
+    look_up(&BILLED, text)
 }
+
+const CREDITED: [(&[u8], Charge); 3] = [
+    (b"600", Charge::Network),
+    (b"601", Charge::Line),
+    (b"602", Charge::Transformation),
+];
 
 // A charge by the number under which it is credited.
 pub(crate) fn credit_of(text: &[u8]) -> Option<Charge>
     ensures { result ≡ credit_of text.now }
 {
-    if is(text, b"600") {
-        Some(Charge::Network)
-    } else if is(text, b"601") {
-        Some(Charge::Line)
-    } else if is(text, b"602") {
-        Some(Charge::Transformation)
-    } else {
-        None
-    }
+    look_up(&CREDITED, text)
 }
+
+const STORES: [(&[u8], StoreKind); 2] = [(b"table", StoreKind::Table), (b"rows", StoreKind::Rows)];
 
 pub(crate) fn store_of(text: &[u8]) -> Option<StoreKind>
     ensures { result ≡ store_of text.now }
 {
-    if is(text, b"table") {
-        Some(StoreKind::Table)
-    } else if is(text, b"rows") {
-        Some(StoreKind::Rows)
-    } else {
-        None
-    }
+    look_up(&STORES, text)
 }
+
+const SERVICES: [(&[u8], Service); 2] = [
+    (b"Y", Service { in_service: true }),
+    (b"N", Service { in_service: false }),
+];
 
 // Y for in service, N for not.
 pub(crate) fn service_of(text: &[u8]) -> Option<Service>
     ensures { result ≡ service_of text.now }
 {
-    if is(text, b"Y") {
-        Some(Service { in_service: true })
-    } else if is(text, b"N") {
-        Some(Service { in_service: false })
-    } else {
-        None
-    }
+    look_up(&SERVICES, text)
+}
+
+pub(crate) fn party_of(text: &[u8]) -> Option<PartyNumber>
+    ensures { result ≡ option_map party_of (whole_of text.now) }
+{
+    whole(text).map(|number| PartyNumber { number })
 }
 
 // A date as it is written, whether or not there is such a day.
@@ -181,10 +134,8 @@ impl Date {
     fn exists(self) -> bool
         ensures { result ≡ is_date self.year self.month self.day }
     {
-        1 <= self.month
-            && self.month <= 12
-            && 1 <= self.day
-            && self.day <= dates::days_in_month(self.year, self.month)
+        (1..=12).contains(&self.month)
+            && (1..=dates::days_in_month(self.year, self.month)).contains(&self.day)
     }
 
     // The day number. A date after 2099 has the largest of 32 bits, which is out of range; one before 2000 has none.
@@ -205,16 +156,11 @@ fn date_of(text: &[u8]) -> Option<Date>
     if text.len() != 10 || text[4] != b'-' || text[7] != b'-' {
         return None;
     }
-    let Some(year) = whole(&text[0..4]) else {
-        return None;
-    };
-    let Some(month) = whole(&text[5..7]) else {
-        return None;
-    };
-    let Some(day) = whole(&text[8..10]) else {
-        return None;
-    };
-    Some(Date { year, month, day })
+    Some(Date {
+        year: whole(&text[0..4])?,
+        month: whole(&text[5..7])?,
+        day: whole(&text[8..10])?,
+    })
 }
 
 // The day from which on an entry counts: a day number, or a date.
@@ -224,8 +170,5 @@ pub(crate) fn from_of(text: &[u8]) -> Option<u32>
     if let Some(number) = whole(text) {
         return Some(number);
     }
-    let Some(date) = date_of(text) else {
-        return None;
-    };
-    date.number()
+    date_of(text)?.number()
 }

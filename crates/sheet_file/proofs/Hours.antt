@@ -1,30 +1,17 @@
 -- The readings of a line, one by one, and the ways of a line.
-use Rattle.std.proofs.Common.{◌≡◌, ℕ, ◌+◌, ◌<◌, ◌≤◌, eqb, List, [], ◌∷◌, ◌++◌, length, Some, None, Ok, Err, Result, sym, refl, ap, ◌∙◌, append_assoc, arith}
-use Rattle.std.specs.Result.{result_map_both}
+use Rattle.std.proofs.Common.{◌≡◌, ℕ, ◌+◌, ◌≤◌, eqb, List, [], ◌∷◌, ◌++◌, length, Some, None, Ok, Err, Result, sym, ap, ◌∙◌, arith}
 use Rattle.std.specs.Option.{ok_or}
-use Rattle.std.proofs.lemmas.Bool.{cond-true, cond-false, eq-eqb, ne_eqb}
+use Rattle.std.proofs.lemmas.Bool.{cond-true, eq-eqb}
 use Rattle.text.specs.Format.{number_of, before, after}
 use Rattle.text.proofs.Parts.{parts_three}
 use Rattle.sheet_file.specs.Values.{values, reading_of}
-use Rattle.sheet_file.specs.Sheets.{and_then, readings_from, sheet_from, sheet_of, value_fault_at, line_fault_at}
-use Rattle.sheet_file.specs.declared.faults.LineFault.TheVariants.{Malformed}
+use Rattle.sheet_file.specs.Sheets.{and_then, readings_from, sheet_from, sheet_of}
 use Rattle.tariff.specs.declared.reading.Reading.{Reading}
-use Rattle.tariff.specs.declared.reading.Sheet.{Sheet}
 
 -- xs, and then what r gives
 abbrev pub ahead : List Reading → Result (List Reading) ℕ → Result (List Reading) ℕ
 ahead xs (Ok ys) = Ok (xs ++ ys)
 ahead xs (Err p) = Err p
-
-onward : (xs : List Reading) (x : Reading) (r : Result (List Reading) ℕ) → ahead xs (and_then r (λ ys. Ok (x ∷ ys))) ≡ ahead (xs ++ x ∷ []) r
-onward xs x (Ok ys) = ap Ok (sym (append_assoc xs (x ∷ []) ys))
-onward xs x (Err p) = refl
-
-pub reading_more : (xs : List Reading) (p : ℕ) (v : List ℕ) (vs : List (List ℕ)) (x : Reading) → reading_of v ≡ Some x → ahead xs (readings_from p (v ∷ vs)) ≡ ahead (xs ++ x ∷ []) (readings_from (p + 1) vs)
-reading_more xs p v vs x e = ap (λ o. ahead xs (and_then (ok_or o p) (λ r. and_then (readings_from (p + 1) vs) (λ rs. Ok (r ∷ rs))))) e ∙ onward xs x (readings_from (p + 1) vs)
-
-pub reading_none : (xs : List Reading) (p : ℕ) (v : List ℕ) (vs : List (List ℕ)) → reading_of v ≡ None → ahead xs (readings_from p (v ∷ vs)) ≡ Err p
-reading_none xs p v vs e = ap (λ o. ahead xs (and_then (ok_or o p) (λ r. and_then (readings_from (p + 1) vs) (λ rs. Ok (r ∷ rs))))) e
 
 -- the first place at which there is no reading is not before the first place
 later : (p k : ℕ) (r : Result (List Reading) ℕ) (x : Reading) → (r ≡ Err k → p + 1 ≤ k) → and_then r (λ rs. Ok (x ∷ rs)) ≡ Err k → p ≤ k
@@ -41,15 +28,6 @@ place_from p (v ∷ vs) k e =
 
 -- the ways of a line of 26 values
 module _ (a b : List ℕ) (hs : List (List ℕ)) where
-  pub no_point : number_of 9 a ≡ None → sheet_from (a ∷ b ∷ hs) ≡ Err 1
-  no_point e = rw e
-
-  pub no_day : (p : ℕ) → number_of 9 a ≡ Some p → number_of 2 b ≡ None → sheet_from (a ∷ b ∷ hs) ≡ Err 2
-  no_day p e f = rw (e, f)
-
-  pub no_hour : (p d k : ℕ) → number_of 9 a ≡ Some p → number_of 2 b ≡ Some d → readings_from 3 hs ≡ Err k → sheet_from (a ∷ b ∷ hs) ≡ Err k
-  no_hour p d k e f g = rw (e, f, g)
-
   pub all_read : (p d : ℕ) (rs : List Reading) → number_of 9 a ≡ Some p → number_of 2 b ≡ Some d → readings_from 3 hs ≡ Ok rs → sheet_from (a ∷ b ∷ hs) ≡ Ok (record { point = p; day = d; readings = rs })
   all_read p d rs e f g = rw (e, f, g)
 
@@ -66,7 +44,3 @@ module _ (text first others second hours : List ℕ) (long : length (values text
 
   pub sheet_cut : sheet_of (values text) ≡ sheet_from (first ∷ second ∷ values hours)
   sheet_cut = cond-true (eqb (length (values text)) 26) _ _ (eq-eqb _ 26 long) ∙ ap sheet_from three
-
--- a malformed value, as the line tells it
-pub told : (n k : ℕ) (r : Result Sheet ℕ) → 0 < k → r ≡ Err k → Err (Malformed (value_fault_at n k)) ≡ result_map_both (λ x. x) (line_fault_at n) r
-told n k r h e = ap Err (sym (cond-false (eqb k 0) _ _ (ne_eqb k 0 (λ z. omega arith)))) ∙ ap (result_map_both (λ x. x) (line_fault_at n)) (sym e)

@@ -5,8 +5,8 @@ use Rattle.tariff.specs.declared.reading.Reading.{Reading}
 use Rattle.tariff.specs.declared.reading.Sheet.{Sheet}
 use Rattle.text.specs.Format.{number_of}
 use Rattle.sheet_file.specs.Values.{reading_of}
-use Rattle.sheet_file.specs.declared.faults.Cause.TheVariants as cause
 use Rattle.sheet_file.specs.declared.faults.FileFault.{FileFault}
+use Rattle.sheet_file.specs.declared.faults.FileFault.TheVariants as file
 use Rattle.sheet_file.specs.declared.faults.LineFault.{LineFault}
 use Rattle.sheet_file.specs.declared.faults.LineFault.TheVariants.{NotTwentySixValues, Malformed}
 use Rattle.sheet_file.specs.declared.faults.ValueFault.{ValueFault}
@@ -44,4 +44,4 @@ abbrev pub line_fault_at : ℕ → ℕ → LineFault
 line_fault_at n p = cond (p == 0) (NotTwentySixValues n) (Malformed (value_fault_at n p))
 
 abbrev pub file_fault_at : ℕ → ℕ → FileFault
-file_fault_at n p = record { cause = cond (p == 0) cause.NotTwentySixValues cause.Malformed; place = p; line = n }
+file_fault_at n p = cond (p == 0) (file.NotTwentySixValues n) (file.Malformed p n)

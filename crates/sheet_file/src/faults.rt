@@ -19,22 +19,15 @@ pub struct ValueFault {
 
 #[derive(Clone, Copy)]
 pub enum LineFault {
-    NotTwentySixValues(u64),
+    NotTwentySixValues { line: u64 },
     Malformed(ValueFault),
 }
 
+// Why a line of a file was refused.
 #[derive(Clone, Copy)]
-pub enum Cause {
-    NotTwentySixValues,
-    Malformed,
-}
-
-// Why a line was refused: the place is 0 where it is the whole line.
-#[derive(Clone, Copy)]
-pub struct FileFault {
-    pub cause: Cause,
-    pub place: u8,
-    pub line: u64,
+pub enum FileFault {
+    NotTwentySixValues { line: u64 },
+    Malformed { place: u8, line: u64 },
 }
 
 impl From<ValueFault> for LineFault {
@@ -50,13 +43,8 @@ impl From<LineFault> for FileFault {
 
     fn from(fault: LineFault) -> FileFault {
         match fault {
-            LineFault::NotTwentySixValues(line) => FileFault {
-                cause: Cause::NotTwentySixValues,
-                place: 0,
-                line,
-            },
-            LineFault::Malformed(value) => FileFault {
-                cause: Cause::Malformed,
+            LineFault::NotTwentySixValues { line } => FileFault::NotTwentySixValues { line },
+            LineFault::Malformed(value) => FileFault::Malformed {
                 place: value.spot.place,
                 line: value.spot.line,
             },
@@ -68,12 +56,9 @@ impl From<FileFault> for Refusal {
     ghost from_gives = { λ f r. r ≡ refusal_of_fault f };
 
     fn from(fault: FileFault) -> Refusal {
-        match fault.cause {
-            Cause::NotTwentySixValues => Refusal::NotTwentySixValues { line: fault.line },
-            Cause::Malformed => Refusal::MalformedValue {
-                place: fault.place,
-                line: fault.line,
-            },
+        match fault {
+            FileFault::NotTwentySixValues { line } => Refusal::NotTwentySixValues { line },
+            FileFault::Malformed { place, line } => Refusal::MalformedValue { place, line },
         }
     }
 }

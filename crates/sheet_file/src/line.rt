@@ -8,6 +8,7 @@ use crate::faults::{LineFault, Spot, ValueFault};
 use crate::value::{number_at, reading_at};
 use tariff::reading::{Reading, Sheet};
 use text::cuts::{count_marks, cut};
+use text::walk::Parts;
 
 // The 24 readings of the values of `hours`, which stand from place 3 on.
 fn readings_of(line: u64, hours: &[u8]) -> Result<[Reading; 24], ValueFault>
@@ -15,27 +16,20 @@ fn readings_of(line: u64, hours: &[u8]) -> Result<[Reading; 24], ValueFault>
     ensures { result ≡ result_map_both (λ x. x) (value_fault_at line) (readings_from 3 (values hours.now)) }
 {
     let mut readings = [Reading::Withdrawal(0); 24];
-    let mut rest = hours;
-    for i in 0..24 {
-        let (text, others) = cut(rest, b'|');
-        readings[i] = reading_at(
-            Spot {
-                line,
-                place: i as u8 + 3,
-            },
-            text,
-        )?;
-        rest = others;
+    for (hour, text) in Parts::new(hours, b'|').enumerate() {
+        let place = hour as u8 + 3;
+        readings[hour] = reading_at(Spot { line, place }, text)?;
     }
     Ok(readings)
 }
 
 // The sheet that the line of number `line` holds.
+#[tactic(auto, using(crate::proofs::Hours::sheet_cut, crate::proofs::Hours::place_from))]
 pub(crate) fn sheet_of(line: u64, text: &[u8]) -> Result<Sheet, LineFault>
     ensures { result ≡ result_map_both (λ x. x) (line_fault_at line) (sheet_of (values text.now)) }
 {
     if count_marks(text, b'|') != 25 {
-        return Err(LineFault::NotTwentySixValues(line));
+        return Err(LineFault::NotTwentySixValues { line });
     }
     let (first, others) = cut(text, b'|');
     let (second, hours) = cut(others, b'|');

@@ -30,21 +30,21 @@ pub(crate) fn value_of(text: &[u8]) -> Value<'_>
 pub(crate) fn number_at(spot: Spot, text: &[u8], most: usize) -> Result<u32, ValueFault>
     ensures { result ≡ ok_or (number_of (min most 9) text.now) (record { spot = spot }) }
 {
-    let fault = ValueFault { spot };
-    match value_of(text) {
-        Value::Number(digits) => number(digits, most).ok_or(fault),
-        Value::Withdrawal(_) | Value::Injection(_) => Err(fault),
-    }
+    let value = match value_of(text) {
+        Value::Number(digits) => number(digits, most),
+        Value::Withdrawal(_) | Value::Injection(_) => None,
+    };
+    value.ok_or(ValueFault { spot })
 }
 
 // An hour's reading: W or I, and then 1 to 8 digits.
 pub(crate) fn reading_at(spot: Spot, text: &[u8]) -> Result<Reading, ValueFault>
     ensures { result ≡ ok_or (reading_of text.now) (record { spot = spot }) }
 {
-    let fault = ValueFault { spot };
-    match value_of(text) {
-        Value::Withdrawal(digits) => Ok(Reading::Withdrawal(number(digits, 8).ok_or(fault)?)),
-        Value::Injection(digits) => Ok(Reading::Injection(number(digits, 8).ok_or(fault)?)),
-        Value::Number(_) => Err(fault),
-    }
+    let reading = match value_of(text) {
+        Value::Withdrawal(digits) => number(digits, 8).map(Reading::Withdrawal),
+        Value::Injection(digits) => number(digits, 8).map(Reading::Injection),
+        Value::Number(_) => None,
+    };
+    reading.ok_or(ValueFault { spot })
 }

@@ -14,17 +14,13 @@ const MAX_DAYS: u32 = 31;
 fn push_reading(text: &mut Text, reading: Reading)
     ensures { text_of text.new ≡ take 256 (text_of text.old ++ (124 ∷ reading_text reading)) }
 {
+    let (letter, quantity) = match reading {
+        Reading::Withdrawal(q) => (b'W', q),
+        Reading::Injection(q) => (b'I', q),
+    };
     text.push(b'|');
-    match reading {
-        Reading::Withdrawal(q) => {
-            text.push(b'W');
-            text.push_number(u64::from(q));
-        }
-        Reading::Injection(q) => {
-            text.push(b'I');
-            text.push_number(u64::from(q));
-        }
-    }
+    text.push(letter);
+    text.push_number(u64::from(quantity));
 }
 
 fn line_of(sheet: &Sheet) -> Text
@@ -35,8 +31,8 @@ fn line_of(sheet: &Sheet) -> Text
     text.push_number(u64::from(sheet.point));
     text.push(b'|');
     text.push_number(u64::from(sheet.day));
-    for i in 0..24 {
-        push_reading(&mut text, sheet.readings[i]);
+    for reading in sheet.readings {
+        push_reading(&mut text, reading);
     }
     text.push(b'\n');
     text

@@ -1,5 +1,5 @@
 -- Digits read to a number, and a number's digits read back.
-use Rattle.std.proofs.Common.{◌≡◌, ℕ, ◌+◌, ◌-◌, ◌*◌, ◌^◌, ◌<◌, ◌≤◌, true, false, ◌&&◌, ltb, leb, List, [], ◌∷◌, length, get_or, drop, ℤ, pos, negsuc, nat_abs, Some, None, decimal, sym, refl, ap, ◌∙◌, pow-suc, add-one, arith, rules}
+use Rattle.std.proofs.Common.{◌≡◌, ℕ, ◌+◌, ◌*◌, ◌^◌, ◌<◌, ◌≤◌, true, false, ◌&&◌, List, [], ◌∷◌, length, get_or, drop, ℤ, pos, negsuc, nat_abs, Some, decimal, sym, refl, ap, ◌∙◌, pow-suc, add-one, arith, rules}
 use native.Mathlib.Nat.{pow-le-pow_right}
 use lib.Signed.{lt_z, mag}
 use Rattle.std.specs.Char.{is_ascii_digit}
@@ -8,12 +8,9 @@ use Rattle.std.specs.Str.{all_ascii_digits}
 use Rattle.std.proofs.lemmas.List.{at_drop_more}
 use Rattle.std.proofs.lemmas.Str.Parse.{IsNumeralModel, numerals_by_fold}
 use Rattle.std.proofs.lemmas.Fmt.{digits_decimal, digits_value-decimal, decimal_nonempty, length-decimal-le}
-use Rattle.std.proofs.lemmas.Bool.{both_ways, cond-true, cond-false, and_from, and_parts, and_right, lt-ltb, ltb-true, le-leb}
+use Rattle.std.proofs.lemmas.Bool.{both_ways, cond-true, and_from, and_parts, lt-ltb, ltb-true, le-leb}
 use Rattle.text.specs.Format.{read_on, number_of}
 use Rattle.text.specs.Laws.{Free}
-
-pub number_none : (most : ℕ) (ds : List ℕ) → all_ascii_digits ds ≡ false → number_of most ds ≡ None
-number_none most ds h = cond-false _ _ _ (and_right (ltb 0 (length ds)) _ (and_right (leb (length ds) most) (all_ascii_digits ds) h))
 
 pub number_some : (most : ℕ) (ds : List ℕ) → 0 < length ds → length ds ≤ most → all_ascii_digits ds ≡ true → number_of most ds ≡ Some (read_on 0 ds)
 number_some most ds a b h = cond-true _ _ _ (and_from _ _ (lt-ltb 0 _ a) (and_from _ _ (le-leb _ _ b) h))
@@ -32,9 +29,6 @@ module _ (xs : List ℕ) (i : ℕ) (h : i < length xs) where
 
   pub digits_more : all_ascii_digits (drop i xs) ≡ all_ascii_digits xs → true ≡ is_ascii_digit (get_or xs i 0) → all_ascii_digits (drop (i + 1) xs) ≡ all_ascii_digits xs
   digits_more e digit = ap (λ b. b && all_ascii_digits (drop (i + 1) xs)) digit ∙ sym (at_drop_more all_ascii_digits xs i 0 h) ∙ e
-
-  pub read_more : (n m : ℕ) → read_on n (drop i xs) ≡ read_on 0 xs → m ≡ 10 * n + (get_or xs i 0 - 48) → read_on m (drop (i + 1) xs) ≡ read_on 0 xs
-  read_more n m e is = ap (λ k. read_on k (drop (i + 1) xs)) is ∙ sym (at_drop_more (read_on n) xs i 0 h) ∙ e
 
 own : IsNumeralModel (λ ds. all_ascii_digits ds ≡ true) (read_on 0)
 own = numerals_by_fold _ (search rules) read_on (search rules)

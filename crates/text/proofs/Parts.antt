@@ -1,7 +1,10 @@
 -- The parts of a text, taken from the front, at any mark.
-use Rattle.std.proofs.Common.{◌≡◌, ℕ, suc, ◌+◌, ◌<◌, ◌≤◌, true, false, cond, eqb, List, [], ◌∷◌, ◌++◌, length, get_or, take, drop, sym, refl, ap, ◌∙◌, arith, length-drop}
-use Rattle.std.proofs.lemmas.List.{at_drop_more, at_drop_all, drop-drop}
-use Rattle.std.proofs.lemmas.Bool.{eq-eqb, ne_eqb, cond-true, cond-false}
+use Rattle.std.proofs.Common.{◌≡◌, ℕ, suc, ◌+◌, ◌-◌, ◌<◌, ◌≤◌, true, false, cond, eqb, ltb, Some, None, List, [], ◌∷◌, ◌++◌, length, take, drop, sym, refl, ap, ◌∙◌, arith, length-drop}
+use Rattle.std.specs.List.{count_by, position, position_or_len}
+use Rattle.std.specs.Option.{unwrap_or}
+use Rattle.std.proofs.lemmas.List.{drop-drop, length-take}
+use Rattle.std.proofs.lemmas.List.Recursion.{is_position_or_len, is_count_by}
+use Rattle.std.proofs.lemmas.Bool.{eq-eqb, ne_eqb, cond-true, cond-false, ltb-false}
 use Rattle.text.specs.Format.{before, after, onto, parts}
 use Rattle.text.specs.Laws.{Free}
 
@@ -22,16 +25,20 @@ after_drop mark (c ∷ cs) =
       | false ↦ after_drop mark cs
     ]
 
--- the length of the front, counted from i
-module _ (mark : ℕ) (xs : List ℕ) (i : ℕ) where
-  pub front_here : i < length xs → get_or xs i 0 ≡ mark → length (before mark (drop i xs)) ≡ 0
-  front_here h is = at_drop_more (λ l. length (before mark l)) xs i 0 h ∙ ap length (cond-true _ _ _ (eq-eqb _ mark is))
+-- the front is as long as the place of the first mark, or as the text
+front_place : (mark : ℕ) (xs : List ℕ) → length (before mark xs) ≡ position_or_len (λ c. eqb c mark) xs
+front_place mark xs =
+    is_position_or_len (λ l. length (before mark l)) (λ c. eqb c mark) refl (λ c cs.
+    elim (eqb c mark) as (λ b. length (cond b [] (c ∷ before mark cs)) ≡ cond b 0 (1 + length (before mark cs))) [ true ↦ refl | false ↦ omega arith ]) xs
 
-  pub front_later : i < length xs → (get_or xs i 0 ≡ mark → ⊥) → length (before mark (drop i xs)) ≡ suc (length (before mark (drop (i + 1) xs)))
-  front_later h other = at_drop_more (λ l. length (before mark l)) xs i 0 h ∙ ap length (cond-false _ _ _ (ne_eqb _ mark other))
-
-  pub front_end : length xs ≤ i → length (before mark (drop i xs)) ≡ 0
-  front_end h = at_drop_all (λ l. length (before mark l)) xs i h
+pub front_or_all : (mark : ℕ) (xs : List ℕ) → unwrap_or (position (λ c. eqb c mark) xs) (length xs) ≡ length (before mark xs)
+front_or_all mark xs =
+    let at = position_or_len (λ c. eqb c mark) xs in
+    let within : length (before mark xs) ≤ length xs = omega (arith, ap length (before_take mark xs), length-take (length (before mark xs)) xs) in
+    elim (ltb at (length xs)) as (λ b. ltb at (length xs) ≡ b → unwrap_or (cond b (Some at) None) (length xs) ≡ length (before mark xs)) [
+      | true ↦ λ e. sym (front_place mark xs)
+      | false ↦ λ e. omega (arith, front_place mark xs, within, ltb-false at (length xs) e)
+    ] refl
 
 -- a text has a part, and a byte that is no mark adds none
 length_onto : (c : ℕ) (ps : List (List ℕ)) → 0 < length ps → length (onto c ps) ≡ length ps
@@ -50,11 +57,15 @@ some_parts mark (c ∷ cs) =
       | false ↦ some_onto c (parts mark cs)
     ]
 
-pub parts_mark : (mark c : ℕ) (cs : List ℕ) → c ≡ mark → length (parts mark (c ∷ cs)) ≡ 1 + length (parts mark cs)
-parts_mark mark c cs e = ap length (cond-true (eqb c mark) ([] ∷ parts mark cs) (onto c (parts mark cs)) (eq-eqb c mark e)) ∙ omega arith
-
-pub parts_other : (mark c : ℕ) (cs : List ℕ) → (c ≡ mark → ⊥) → length (parts mark (c ∷ cs)) ≡ length (parts mark cs)
-parts_other mark c cs e = ap length (cond-false (eqb c mark) ([] ∷ parts mark cs) (onto c (parts mark cs)) (ne_eqb c mark e)) ∙ length_onto c _ (some_parts mark cs)
+-- one more part than marks
+pub parts_counted : (mark : ℕ) (xs : List ℕ) → count_by (λ c. eqb c mark) xs + 1 ≡ length (parts mark xs)
+parts_counted mark xs =
+    let same = is_count_by (λ l. length (parts mark l) - 1) (λ c. eqb c mark) refl (λ c cs.
+    elim (eqb c mark) as (λ b. length (cond b ([] ∷ parts mark cs) (onto c (parts mark cs))) - 1 ≡ cond b (1 + (length (parts mark cs) - 1)) (length (parts mark cs) - 1)) [
+      | true ↦ omega (arith, some_parts mark cs)
+      | false ↦ ap (λ n. n - 1) (length_onto c (parts mark cs) (some_parts mark cs))
+    ]) xs in
+    omega (arith, same, some_parts mark xs)
 
 onto_head : (c : ℕ) (ps : List (List ℕ)) (p : List ℕ) → ps ≡ p ∷ drop 1 ps → onto c ps ≡ (c ∷ p) ∷ drop 1 (onto c ps)
 onto_head c [] p e = absurd (omega (arith, ap length e))

@@ -1,10 +1,11 @@
 -- A line being written, and the memory that it is copied to.
-use Rattle.std.specs.Prelude.{ℕ, cond, List, ◌++◌, length, take, drop, Some, None, Option, nat_le}
+use Rattle.std.specs.Prelude.{ℕ, cond, List, ◌++◌, length, drop, Some, None, Option, nat_le}
+use Rattle.fixed_list.specs.Lists.{items_of}
 use Rattle.text.specs.declared.line.Text.{Text}
 
 -- what is written so far
 abbrev pub text_of : Text → List ℕ
-text_of t = take t.len t.bytes
+text_of t = items_of t.bytes
 
 -- the line's length where the memory has room for it
 abbrev pub fitting : List ℕ → ℕ → Option ℕ

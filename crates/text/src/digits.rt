@@ -14,10 +14,7 @@ pub fn number(text: &[u8], most: usize) -> Option<u32>
     }
     let mut n = 0;
     for b in text {
-        if !b.is_ascii_digit() {
-            return None;
-        }
-        n = 10 * n + u32::from(*b - b'0');
+        n = 10 * n + char::from(*b).to_digit(10)?;
     }
     Some(n)
 }

@@ -6,4 +6,5 @@
 pub mod cuts;
 pub mod digits;
 pub mod line;
+pub mod numbered;
 pub mod walk;

@@ -1,17 +1,17 @@
 // The parts of a text, taken one by one.
 ghost use Rattle.std.specs.Prelude.{◌≡◌};
-ghost use Rattle.std.specs.Option.{option_map};
+ghost use Rattle.std.specs.Iterator.{YieldsFirstRef, item_count};
 ghost use Rattle.text.specs.Format.{parts};
-ghost use Rattle.text.specs.Parting.{left_in, Next};
+ghost use Rattle.text.specs.Parting.{left_in};
 
 use crate::cuts::cut;
 
-// What is left of a text after some of its parts.
+// What is left of a text after some of its parts: nothing after the last.
+// The library's `split` gives the same parts, but a loop over it cannot name what is left.
 #[derive(Drop)]
 pub struct Parts<'a> {
-    rest: &'a [u8],
+    rest: Option<&'a [u8]>,
     mark: u8,
-    more: bool,
 }
 
 impl<'a> Parts<'a> {
@@ -19,23 +19,23 @@ impl<'a> Parts<'a> {
         ensures { left_in result ≡ parts mark text.now }
     {
         Parts {
-            rest: text,
+            rest: Some(text),
             mark,
-            more: true,
         }
     }
+}
 
-    // The next part; None after the last.
-    pub fn next_part(&mut self) -> Option<&'a [u8]>
-        ensures { Next (left_in self.old) (option_map (λ x. x.now) result) (left_in self.new) }
-    {
-        if !self.more {
-            return None;
-        }
-        let rest = self.rest;
+impl<'a> Iterator for Parts<'a> {
+    type Item = &'a [u8];
+
+    ghost next_gives = { YieldsFirstRef left_in };
+
+    ghost remaining = { item_count left_in };
+
+    fn next(&mut self) -> Option<&'a [u8]> {
+        let rest = self.rest?;
         let (part, others) = cut(rest, self.mark);
-        self.rest = others;
-        self.more = part.len() < rest.len();
+        self.rest = (part.len() < rest.len()).then_some(others);
         Some(part)
     }
 }

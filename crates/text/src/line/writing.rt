@@ -3,30 +3,25 @@ ghost use Rattle.std.specs.Prelude.{◌≡◌, ◌≤◌, [], ◌∷◌, ◌++�
 ghost use Rattle.std.specs.Fmt.{signed_decimal};
 ghost use Rattle.text.specs.Texts.{text_of, fitting, overlay};
 
-use super::{ROOM, Text};
+use super::Text;
+use fixed_list::list::FixedList;
 
 impl Text {
     pub fn new() -> Text
         ensures { text_of result ≡ [] }
     {
         Text {
-            bytes: [0; ROOM],
-            len: 0,
+            bytes: FixedList::new(0),
         }
     }
 
     pub fn push(&mut self, b: u8)
         ensures { text_of self.new ≡ take 256 (text_of self.old ++ b ∷ []) }
     {
-        let at = self.len;
-        if at >= ROOM {
-            return;
-        }
-        self.bytes[at] = b;
-        self.len = at + 1;
+        self.bytes.push(b);
     }
 
-    // The decimal digits of `n`, as few as write it.
+    // The decimal digits of `n`, as few as write it. The calls give them from the first on, with no memory to turn them round.
     pub fn push_number(&mut self, n: u64)
         ensures { text_of self.new ≡ take 256 (text_of self.old ++ decimal n) }
     {
@@ -58,13 +53,13 @@ impl Text {
     pub fn as_bytes(&self) -> &[u8]
         ensures { result.now ≡ text_of self.now }
     {
-        &self.bytes[0..self.len]
+        self.bytes.as_slice()
     }
 
     pub fn len(&self) -> usize
         ensures { (result ≡ length (text_of self.now)) × (result ≤ 256) }
     {
-        self.as_bytes().len()
+        self.bytes.len()
     }
 
     // Copies the line to the front of `out` and answers its length, or None where it does not fit.
@@ -72,11 +67,11 @@ impl Text {
         ensures value { result ≡ fitting (text_of self.now) (length out.old) }
         ensures memory { out.new ≡ overlay result (text_of self.now) out.old }
     {
-        let n = self.len;
-        if out.len() < n {
+        let line = self.as_bytes();
+        if out.len() < line.len() {
             return None;
         }
-        out[0..n].copy_from_slice(&self.bytes[0..n]);
-        Some(n)
+        out[..line.len()].copy_from_slice(line);
+        Some(line.len())
     }
 }

@@ -1,11 +1,7 @@
-use Rattle.std.proofs.Common.{length}
 use Rattle.text.specs.Format.{parts}
 use Rattle.text.specs.Parting.{left_in}
 use Rattle.job.proofs.Naming.{SoFar}
 use Rattle.job.proofs.days.day_mask.Given as goal
 
 abbrev pub invariant-loop-part : goal.invariant-loop-part
-invariant-loop-part l = SoFar (parts 44 l.list) (left_in l.parts) l.mask
-
-abbrev pub decreases-loop-part : goal.decreases-loop-part
-decreases-loop-part l = length (left_in l.parts)
+invariant-loop-part l = SoFar (parts 44 l.list) (left_in l.part-iterator) l.mask

@@ -18,14 +18,14 @@ loop-b-preserved c =
     let i = c.loop-b.b-index in
     let n = c.loop-b.n in
     let rest = drop (i + 1) xs in
-    let digit : 10 * n + c.from.result ≡ 10 * n + (get_or xs i 0 - 48) = ap (λ d. 10 * n + d) c.from.ensures in (
+    let digit = get_or xs i 0 - 48 in
+    let capped : c.saturating_add-n.result ≡ min (10 * n + digit) 4294967295 = omega (arith, c.saturating_mul.ensures, c.from.ensures, c.saturating_add-n.ensures) in (
       digits_more xs _ c.loop-b-test.true c.loop-b.invariant.0 c.if-not-is_ascii_digit.ensures.value,
-      ap (λ m. min (read_on m rest) 4294967295) c.min-n.ensures
-          ∙ read_capped 4294967295 (10 * n + c.from.result) rest
-          ∙ ap (λ m. min (read_on m rest) 4294967295) digit
+      ap (λ m. min (read_on m rest) 4294967295) capped
+          ∙ read_capped 4294967295 (10 * n + digit) rest
           ∙ ap (λ m. min m 4294967295) (sym (at_drop_more (read_on n) xs i 0 c.loop-b-test.true))
           ∙ c.loop-b.invariant.1,
-      omega arith,
+      omega (arith, capped),
     )
 
 pub returns : goal.returns

@@ -6,8 +6,8 @@ use Rattle.sheet_file.specs.Writing.{reading_text, hours_text}
 use Rattle.sheet_file.proofs.Lengths.{hours_more}
 use Rattle.sheet_file.proofs.writer.line_of.Goals as goal
 
-pub loop-i-init : goal.loop-i-init
-loop-i-init c =
+pub loop-reading-init : goal.loop-reading-init
+loop-reading-init c =
     let p = c.from.result in
     let d = c.from-2.result in
     let point = decimal c.args.sheet.now.point in
@@ -19,22 +19,22 @@ loop-i-init c =
     ∙ ap (λ n. take 256 ((point ++ 124 ∷ []) ++ decimal n)) c.from-2.ensures
     ∙ ap (take 256) (append_assoc point (124 ∷ []) day ∙ sym (append-nil (point ++ 124 ∷ day)))
 
-pub loop-i-preserved : goal.loop-i-preserved
-loop-i-preserved c =
+pub loop-reading-preserved : goal.loop-reading-preserved
+loop-reading-preserved c =
     let rs = c.args.sheet.now.readings in
-    let i = c.loop-i.i in
+    let i = c.loop-reading.reading-index in
     let x = get_or rs i (Withdrawal 0) in
     let head = decimal c.args.sheet.now.point ++ 124 ∷ decimal c.args.sheet.now.day in
-    room_more 256 (head ++ hours_text (take i rs)) (124 ∷ reading_text x) _ _ c.loop-i.invariant c.push_reading.ensures
+    room_more 256 (head ++ hours_text (take i rs)) (124 ∷ reading_text x) _ _ c.loop-reading.invariant c.push_reading.ensures
     ∙ ap (take 256) (hours_more head rs i (Withdrawal 0) (omega arith))
 
 pub returns : goal.returns
 returns c =
     let rs = c.args.sheet.now.readings in
-    let i = c.loop-i.i in
+    let i = c.loop-reading.reading-index in
     let head = decimal c.args.sheet.now.point ++ 124 ∷ decimal c.args.sheet.now.day in
     let all : take i rs ≡ rs = take_all i rs (omega arith) in
     record {
-      text = room_more 256 (head ++ hours_text rs) (10 ∷ []) _ _ (c.loop-i.invariant ∙ ap (λ l. take 256 (head ++ hours_text l)) all) c.push-2.ensures;
+      text = room_more 256 (head ++ hours_text rs) (10 ∷ []) _ _ (c.loop-reading.invariant ∙ ap (λ l. take 256 (head ++ hours_text l)) all) c.push-2.ensures;
       hours = omega arith;
     }

@@ -1,25 +1,22 @@
-use Rattle.std.proofs.Common.{◌≡◌, suc, ◌-◌, length, take, drop, sym, ap, ◌∙◌, add-one, arith}
-use Rattle.std.proofs.lemmas.List.{take_rest, take_all, drop_all}
+use Rattle.std.proofs.Common.{suc, length, take, drop, sym, ap, ◌∙◌, add-one, arith}
+use Rattle.std.proofs.lemmas.List.{take_rest, drop_all}
 use Rattle.text.specs.Format.{before}
 use Rattle.text.proofs.Parts.{before_take, after_drop}
+use Rattle.text.proofs.Parting.{before_all}
 use Rattle.text.proofs.cuts.cut.Goals as goal
 
-pub returns-then-at-bytes : goal.returns-then-at-bytes
-returns-then-at-bytes c =
-    let xs = c.args.bytes.now in
-    let mark = c.args.mark in
-    let at = c.find-at.result in
-    let from : at - 0 ≡ length (before mark xs) = omega (arith, c.find-at.ensures) in
-    record {
-      front = ap (λ n. take n xs) from ∙ sym (before_take mark xs);
-      back = take_rest xs _ ∙ ap (λ n. drop n xs) (add-one at ∙ ap suc c.find-at.ensures) ∙ sym (after_drop mark xs);
-    }
+pub returns-in-Some-clause-front : goal.returns-in-Some-clause-front
+returns-in-Some-clause-front c =
+    ap (λ n. take n c.args.bytes.now) c.in-Some.ensures.front ∙ sym (before_take c.args.mark c.args.bytes.now)
 
-pub returns-else-at-bytes : goal.returns-else-at-bytes
-returns-else-at-bytes c =
+pub returns-in-Some-clause-back : goal.returns-in-Some-clause-back
+returns-in-Some-clause-back c =
+    take_rest c.args.bytes.now _ ∙ ap (λ n. drop n c.args.bytes.now) (add-one c.in-Some.at ∙ ap suc c.in-Some.ensures.front) ∙ sym (after_drop c.args.mark c.args.bytes.now)
+
+pub returns-in-None-clause-front : goal.returns-in-None-clause-front
+returns-in-None-clause-front c = sym (before_all c.args.mark c.args.bytes.now (omega (arith, c.in-None.ensures.front)))
+
+pub returns-in-None-clause-back : goal.returns-in-None-clause-back
+returns-in-None-clause-back c =
     let xs = c.args.bytes.now in
-    let mark = c.args.mark in
-    record {
-      front = sym (before_take mark xs ∙ take_all (length (before mark xs)) xs (omega (arith, c.find-at.ensures)));
-      back = sym (after_drop mark xs ∙ drop_all (suc (length (before mark xs))) xs (omega (arith, c.find-at.ensures)));
-    }
+    sym (after_drop c.args.mark xs ∙ drop_all (suc (length (before c.args.mark xs))) xs (omega (arith, c.in-None.ensures.front)))

@@ -1,12 +1,12 @@
-use Rattle.std.proofs.Common.{arith}
-use Rattle.text.proofs.Parts.{front_here, front_later, front_end}
+use Rattle.std.proofs.Common.{eqb, length, ap, ◌∙◌, rules, tests}
+use Rattle.std.proofs.lemmas.Iterator.{YieldsList-from_slice}
+use Rattle.std.proofs.lemmas.Iterator.Search.{position_from_yields_List}
+use Rattle.std.specs.Option.{unwrap_or}
+use Rattle.text.proofs.Parts.{front_or_all}
 use Rattle.text.proofs.cuts.find.Goals as goal
 
-pub returns-then-b-mark : goal.returns-then-b-mark
-returns-then-b-mark c = omega (arith, front_here c.args.mark c.args.bytes.now c.loop-i.i (omega arith) c.if-b-mark.true)
-
-pub loop-i-preserved : goal.loop-i-preserved
-loop-i-preserved c = omega (arith, front_later c.args.mark c.args.bytes.now c.loop-i.i (omega arith) c.if-b-mark.false)
-
-pub returns : goal.returns
-returns c = omega (arith, front_end c.args.mark c.args.bytes.now c.loop-i.i (omega arith))
+pub returns-clause-front : goal.returns-clause-front
+returns-clause-front c =
+    let xs = c.args.bytes.now in
+    ap (λ r. unwrap_or r (length xs)) (position_from_yields_List (λ b. eqb b c.args.mark) _ _ _ c.position.ensures.ran (YieldsList-from_slice xs cc) (λ x b q k. search (rules, tests)))
+    ∙ front_or_all c.args.mark xs
