@@ -13,9 +13,9 @@ use Rattle.ledger.specs.Lines.{account_of, any, every, small, sound_account, sou
 use Rattle.ledger.specs.Dues.{DueFacts, facts_of, all_facts, sound_due}
 use Rattle.ledger.specs.Sums.{on_account}
 use Rattle.ledger.specs.Issues.{opens, only_if, is_on_record, accounts_from, increment, is_zero, entry_line, entry_for, due_lines, statement_lines, distinct, Settled, Unmoved}
-use Rattle.ledger.specs.Passes.{small_line, written}
+use Rattle.ledger.specs.Passes.{small_line}
 use Rattle.ledger.specs.Ledgers.{sound_ledger, new_lines, issue_answer, with_lines, issued}
-use Rattle.ledger.proofs.Passing.{every_append}
+use Rattle.std.proofs.lemmas.List.Folds.{list_all-append}
 use Rattle.ledger.proofs.Settling.{settles, unmoved}
 use Rattle.ledger.proofs.Writing.{written_taken, written_length}
 
@@ -31,7 +31,7 @@ only_sound true a e = and_from (sound_account a) true e refl
 only_sound false a e = refl
 
 every_both : {X : Type 0} (p : X → Bool) (xs ys : List X) → every p xs ≡ true → every p ys ≡ true → every p (xs ++ ys) ≡ true
-every_both p xs ys e f = every_append p xs ys ∙ and_from (every p xs) (every p ys) e f
+every_both p xs ys e f = list_all-append p xs ys ∙ and_from (every p xs) (every p ys) e f
 
 accounts_sound : (d : DueFacts) → sound_due d ≡ true → (before rest : List Line) → every sound_line rest ≡ true
     → every sound_account (accounts_from d before rest) ≡ true
@@ -69,7 +69,7 @@ module _ (s : Statement) (lines : List Line) (d : DueFacts) (e : sound_due d ≡
   entries_sound [] f g = refl
   entries_sound (a ∷ rest) f g =
       let h = and_parts (sound_account a) (every sound_account rest) f in
-      let k = and_parts _ _ (sym (every_append small_line (entry_for s lines d a) (flat_map (entry_for s lines d) rest)) ∙ g) in
+      let k = and_parts _ _ (sym (list_all-append small_line (entry_for s lines d a) (flat_map (entry_for s lines d) rest)) ∙ g) in
       every_both sound_line (entry_for s lines d a) (flat_map (entry_for s lines d) rest) (entry_sound a h.0 k.0) (entries_sound rest h.1 k.1)
 
 new_sound : (s : Statement) (lines : List Line) → every sound_line lines ≡ true → (dues : List DueFacts) → every sound_due dues ≡ true
@@ -77,7 +77,7 @@ new_sound : (s : Statement) (lines : List Line) → every sound_line lines ≡ t
 new_sound s lines e [] f g = refl
 new_sound s lines e (d ∷ ds) f g =
     let h = and_parts (sound_due d) (every sound_due ds) f in
-    let k = and_parts _ _ (sym (every_append small_line (due_lines s lines d) (statement_lines s lines ds)) ∙ g) in
+    let k = and_parts _ _ (sym (list_all-append small_line (due_lines s lines d) (statement_lines s lines ds)) ∙ g) in
     every_both sound_line (due_lines s lines d) (statement_lines s lines ds)
     (entries_sound s lines d h.0 (accounts_from d [] lines) (accounts_sound d h.0 [] lines e) k.0)
     (new_sound s lines e ds h.1 k.1)
@@ -110,18 +110,11 @@ module _ (g : Shelf Line) (s : Statement) (dues : List DueFacts) (ok : is_ok (is
       go true ea false eb c ec e = absurd (false≢true e)
       go false ea b eb c ec e = absurd (false≢true e)
 
-  issued_is : issued g s dues ≡ with_lines g (new_lines g s dues)
+  pub issued_is : issued g s dues ≡ with_lines g (new_lines g s dues)
   issued_is = cond-true (is_ok (issue_answer g s dues)) (with_lines g (new_lines g s dues)) g ok
-
-  pub issued_by : (h : Shelf Line) → h.memory ≡ written g.memory g.used (new_lines g s dues)
-      → h.used ≡ g.used + length (new_lines g s dues) → h ≡ issued g s dues
-  issued_by h memory used = (λ i. record { memory = memory i; used = used i }) ∙ sym issued_is
 
   pub issued_items : items (issued g s dues) ≡ items g ++ new_lines g s dues
   issued_items = ap items issued_is ∙ written_taken g.memory g.used (new_lines g s dues) accepted.room
-
-  pub issued_used : (n : ℕ) → Ok n ≡ issue_answer g s dues → (issued g s dues).used ≡ g.used + n
-  issued_used n e = let k : n ≡ length (new_lines g s dues) = cc accepted.answer in ap (λ z. z.used) issued_is ∙ ap (λ z. g.used + z) (sym k)
 
   pub issued_sound : every sound_due dues ≡ true → sound_ledger (issued g s dues) ≡ true
   issued_sound e =

@@ -16,7 +16,7 @@ abbrev pub sound_due : DueFacts → Bool
 sound_due d = sound_terms d.account d.cents d.quantity d.day d.hour
 
 abbrev pub facts_of : Due → DueFacts
-facts_of d = record { account = d.account; cents = d.cents; quantity = d.quantity; day = d.day; hour = d.hour }
+facts_of d = record { account = d.account; cents = d.terms.cents; quantity = d.terms.quantity; day = d.terms.day; hour = d.terms.hour }
 
 abbrev pub all_facts : List Due → List DueFacts
 all_facts dues = map facts_of dues

@@ -5,7 +5,7 @@ use Rattle.tariff.specs.declared.statement.Statement.{Statement}
 use Rattle.tariff.specs.Charges.{same_charge}
 use Rattle.ledger.specs.declared.line.Line.{Line}
 use Rattle.ledger.specs.declared.line.Account.{Account}
-use Rattle.ledger.specs.declared.due.terms.Terms.{Terms}
+use Rattle.ledger.specs.declared.due.Terms.{Terms}
 use Rattle.ledger.specs.Lines.{account_of, any, same_party}
 use Rattle.ledger.specs.Dues.{DueFacts}
 use Rattle.ledger.specs.Sums.{on_account, total_of}

@@ -4,4 +4,5 @@ pub mod Sums
 pub mod Balances
 pub mod Issues
 pub mod Passes
+pub mod Walks
 pub mod Ledgers

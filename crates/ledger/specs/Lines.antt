@@ -1,5 +1,6 @@
 -- Lines and accounts: equality of their parts, and what makes them sound.
-use Rattle.std.specs.Prelude.{ℕ, Bool, true, false, ◌&&◌, ◌||◌, List, [], ◌∷◌, ℤ, pos, neg_ℤ, ◌==◌, int_le, nat_le}
+use Rattle.std.specs.Prelude.{ℕ, Bool, ◌&&◌, List, ℤ, pos, neg_ℤ, ◌==◌, int_le, nat_le}
+use Rattle.std.specs.List.{list_all, list_any}
 use Rattle.tariff.specs.declared.parties.PartyNumber.{PartyNumber}
 use Rattle.tariff.specs.Charges.{same_charge}
 use Rattle.tariff.specs.Parties.{party_in_range}
@@ -8,12 +9,10 @@ use Rattle.ledger.specs.declared.line.Line.{Line}
 use Rattle.ledger.specs.declared.line.Account.{Account}
 
 abbrev pub every : {X : Type 0} → (X → Bool) → List X → Bool
-every p [] = true
-every p (x ∷ xs) = p x && every p xs
+every p xs = list_all p xs
 
 abbrev pub any : {X : Type 0} → (X → Bool) → List X → Bool
-any p [] = false
-any p (x ∷ xs) = p x || any p xs
+any p xs = list_any p xs
 
 abbrev pub same_party : PartyNumber → PartyNumber → Bool
 same_party a b = a.number == b.number

@@ -4,15 +4,21 @@ ghost use Rattle.ledger.specs.Lines.{sound_terms};
 
 use crate::line::Account;
 
-mod terms;
+mod questions;
+
+// What an account is due: an amount, and its determinant.
+#[derive(Clone, Copy, Default)]
+pub struct Terms {
+    pub cents: i64,
+    pub quantity: u64,
+    pub day: u32,
+    pub hour: u32,
+}
 
 // The amount is not negative, and every number is in its range.
 #[derive(Clone, Copy)]
 pub struct Due {
     account: Account,
-    cents: i64,
-    quantity: u64,
-    day: u32,
-    hour: u32,
-    ghost sound: { sound_terms account cents quantity day hour ≡ true },
+    terms: Terms,
+    ghost sound: { sound_terms account terms.cents terms.quantity terms.day terms.hour ≡ true },
 }

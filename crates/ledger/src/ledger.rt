@@ -2,31 +2,46 @@
 ghost use Rattle.std.specs.Prelude.{◌≡◌, ◌+◌, true, is_ok, IfOk};
 ghost use Rattle.std.specs.List.{AllByRecursion};
 ghost use Rattle.tariff.specs.Shelves.{items};
-ghost use Rattle.ledger.specs.Lines.{every, sound_line};
+ghost use Rattle.std.specs.Result.{result_map_both};
 ghost use Rattle.ledger.specs.Dues.{all_facts};
 ghost use Rattle.ledger.specs.Sums.{credit_of, total_of};
 ghost use Rattle.ledger.specs.Balances.{Balanced};
 ghost use Rattle.ledger.specs.Issues.{distinct, Settled, Unmoved};
 ghost use Rattle.ledger.specs.Ledgers.{shelf_of, sound_ledger, if_sound, issue_answer, issued};
+ghost use Rattle.ledger.specs.Walks.{lines_of};
 
+use crate::choices::CreditTo;
 use crate::due::Due;
 use crate::line::{Account, Line, MAX_LINES};
-use crate::passes::{count_lines, write_lines};
-use crate::sums::{CreditTo, sum_cents};
+use crate::new_lines::{NewLines, count_lines, write_lines};
+use crate::sound_lines::SoundLines;
 use tariff::charge::Charge;
 use tariff::parties::PartyNumber;
 use tariff::refusal::Refusal;
 use tariff::statement::Statement;
 
-fn are_sound(lines: &[Line]) -> bool
-    ensures { result ≡ every sound_line lines.now }
+// Writes the lines that a statement adds behind the lines in use, and answers how many they are.
+// Refuses lines in use that are not sound, then an increment beyond the limit of a line, then more lines than there are
+// places left of the memory or of the limit.
+fn write_issue(
+    memory: &mut [Line],
+    used: usize,
+    statement: Statement,
+    dues: &[Due],
+) -> Result<usize, Refusal>
+    ensures answer { result ≡ issue_answer (record { memory = memory.old; used = used }) statement (all_facts dues.now) }
+    ensures after { memory.new ≡ (issued (record { memory = memory.old; used = used }) statement (all_facts dues.now)).memory }
 {
-    for line in lines {
-        if !line.is_sound() {
-            return false;
-        }
+    let (lines, room) = memory.split_at_mut_checked(used).ok_or(Refusal::Unsound)?;
+    let lines = SoundLines::new(lines).ok_or(Refusal::Unsound)?;
+    let needed = count_lines(NewLines::new(lines, statement, dues)).ok_or(
+        Refusal::IncrementTooLarge,
+    )?;
+    if needed > room.len() || needed > MAX_LINES - used {
+        return Err(Refusal::LedgerFull);
     }
-    true
+    write_lines(NewLines::new(lines, statement, dues), room);
+    Ok(needed)
 }
 
 #[derive(Drop)]
@@ -58,20 +73,22 @@ impl Ledger<'_> {
         ensures { result.now ≡ items (shelf_of self.now) }
     {
         let lines = &*self.lines;
-        let count = self.used.min(lines.len());
-        &lines[0..count]
+        &lines[..self.used.min(lines.len())]
     }
 
     // Refuses more in use than the memory has or than a ledger may have, and a number out of its range in a line in use.
+    fn sound_lines(&self) -> Result<SoundLines<'_>, Refusal>
+        ensures { result_map_both lines_of (λ e. e) result ≡ if_sound (shelf_of self.now) (items (shelf_of self.now)) }
+    {
+        let lines = self.lines.get(..self.used).ok_or(Refusal::Unsound)?;
+        SoundLines::new(lines).ok_or(Refusal::Unsound)
+    }
+
+    // Refuses an unsound ledger.
     pub fn check(&self) -> Result<(), Refusal>
         ensures { result ≡ if_sound (shelf_of self.now) tt }
     {
-        if self.used > self.lines.len() || self.used > MAX_LINES {
-            return Err(Refusal::Unsound);
-        }
-        if !are_sound(self.lines()) {
-            return Err(Refusal::Unsound);
-        }
+        self.sound_lines()?;
         Ok(())
     }
 
@@ -79,8 +96,8 @@ impl Ledger<'_> {
     pub fn total(&self, account: &Account) -> Result<i64, Refusal>
         ensures { result ≡ if_sound (shelf_of self.now) (total_of account.now (items (shelf_of self.now))) }
     {
-        self.check()?;
-        Ok(sum_cents(self.lines(), account))
+        let lines = self.sound_lines()?;
+        Ok(lines.cents(account))
     }
 
     // The sum of the cents of a statement's lines for a charge and a transmitter.
@@ -94,28 +111,13 @@ impl Ledger<'_> {
         ensures value { result ≡ if_sound (shelf_of self.now) (credit_of statement charge transmitter (items (shelf_of self.now))) }
         ensures balanced { sound_ledger (shelf_of self.now) ≡ true → Balanced (items (shelf_of self.now)) }
     {
-        self.check()?;
+        let lines = self.sound_lines()?;
         let which = CreditTo {
             statement,
             charge,
             transmitter,
         };
-        Ok(sum_cents(self.lines(), &which))
-    }
-
-    // How many lines a statement writes. Refuses an unsound ledger, then an increment beyond the limit of a line,
-    // then more lines than there are places left of the memory or of the limit.
-    fn lines_to_write(&self, statement: Statement, dues: &[Due]) -> Result<usize, Refusal>
-        ensures { result ≡ issue_answer (shelf_of self.now) statement (all_facts dues.now) }
-    {
-        self.check()?;
-        let Some(needed) = count_lines(self.lines(), statement, dues) else {
-            return Err(Refusal::IncrementTooLarge);
-        };
-        if needed > self.lines.len() - self.used || needed > MAX_LINES - self.used {
-            return Err(Refusal::LedgerFull);
-        }
-        Ok(needed)
+        Ok(lines.cents(&which))
     }
 
     // Issues a statement: due by due, a line for each account that is not at what it is due, first for the accounts
@@ -129,9 +131,8 @@ impl Ledger<'_> {
         ensures settled { is_ok result ≡ true → distinct (all_facts dues.now) ≡ true → AllByRecursion (Settled (items (shelf_of self.new))) (all_facts dues.now) }
         ensures unmoved { is_ok result ≡ true → Unmoved (all_facts dues.now) (items (shelf_of self.old)) (items (shelf_of self.new)) }
     {
-        let count = self.lines_to_write(statement, dues)?;
-        let used = self.used;
-        self.used = write_lines(self.lines, used, statement, dues);
+        let count = write_issue(self.lines, self.used, statement, dues)?;
+        self.used += count;
         Ok(count)
     }
 }

@@ -3,9 +3,9 @@
 // An accepted issue brings every account of its dues to exactly what it is due and moves no other; a refused one changes nothing.
 #![tactic(auto)]
 
+mod choices;
 pub mod due;
 pub mod ledger;
 pub mod line;
-mod passes;
-mod sums;
-mod walk;
+mod new_lines;
+mod sound_lines;

@@ -1,8 +1,6 @@
 // Ledger lines and the accounts that they stand on: plain values with any contents, tested before they are used.
 ghost use Rattle.std.specs.Prelude.{◌≡◌};
-ghost use Rattle.tariff.specs.Charges.{same_charge};
-ghost use Rattle.tariff.specs.Statements.{same_statement};
-ghost use Rattle.ledger.specs.Lines.{account_of, same_party, small, sound_account, sound_reading, sound_line};
+ghost use Rattle.ledger.specs.Lines.{account_of, small, sound_account, sound_reading, sound_line};
 
 use tariff::charge::Charge;
 use tariff::parties::PartyNumber;
@@ -18,7 +16,8 @@ pub const MAX_CENTS: i64 = 9_999_999_900;
 // The largest quantity, in ten-thousandths of a kW.
 pub const MAX_QUANTITY: u64 = 9_999_999_900;
 
-// What a statement adds to an account. Quantity, day and hour are the determinant, or zeros for an account not on record.
+// What a statement adds to an account: flat, as a caller's memory and a listing have it.
+// Quantity, day and hour are the determinant, or zeros for an account not on record.
 #[derive(Clone, Copy)]
 pub struct Line {
     pub statement: Statement,
@@ -33,7 +32,7 @@ pub struct Line {
 }
 
 // A charge of a point, between a customer and a transmitter.
-#[derive(Clone, Copy)]
+#[derive(Clone, Copy, PartialEq, Eq)]
 pub struct Account {
     pub point: u32,
     pub charge: Charge,
@@ -41,29 +40,11 @@ pub struct Account {
     pub transmitter: PartyNumber,
 }
 
-pub(crate) fn is_same_charge(a: Charge, b: Charge) -> bool
-    ensures { result ≡ same_charge a b }
-{
-    a.number() == b.number()
-}
-
-pub(crate) fn is_same_statement(a: Statement, b: Statement) -> bool
-    ensures { result ≡ same_statement a b }
-{
-    a.rank() == b.rank()
-}
-
-pub(crate) fn is_same_party(a: PartyNumber, b: PartyNumber) -> bool
-    ensures { result ≡ same_party a b }
-{
-    a.number == b.number
-}
-
 // Whether a line may have the amount.
 pub(crate) fn is_small(cents: i64) -> bool
     ensures { result ≡ small cents }
 {
-    -MAX_CENTS <= cents && cents <= MAX_CENTS
+    (-MAX_CENTS..=MAX_CENTS).contains(&cents)
 }
 
 pub(crate) fn is_sound_reading(quantity: u64, day: u32, hour: u32) -> bool
@@ -78,7 +59,7 @@ impl Account {
     {
         let customer = self.customer.is_in_range();
         let transmitter = self.transmitter.is_in_range();
-        1 <= self.point && self.point <= MAX_POINTS && customer && transmitter
+        (1..=MAX_POINTS).contains(&self.point) && customer && transmitter
     }
 }
 

@@ -28,6 +28,7 @@ fn texts_length(lines: &[Line]) -> usize
     ensures { (result ≡ length (flat_map line_text lines.now)) × (result ≤ 25600000) }
 {
     let mut sum = 0;
+    // With `map` and `sum` it stays open that a line adds at most 256, which the caller's own sum needs.
     for line in lines {
         sum += line_text(line).len();
     }

@@ -5,11 +5,6 @@ use Rattle.listing.specs.Rows.{line_text}
 use Rattle.listing.proofs.Passing.{lengths_at, front_more, back_more}
 use Rattle.listing.proofs.listing.put_lines.Goals as goal
 
-pub put-at-requires : goal.put-at-requires
-put-at-requires c =
-    let here = lengths_at c.args.lines.now c.loop-line.line-index _ _ c.line_text.ensures c.loop-line-test.true in
-    omega arith
-
 pub loop-line-preserved : goal.loop-line-preserved
 loop-line-preserved c =
     let ls = c.args.lines.now in
@@ -19,14 +14,3 @@ loop-line-preserved c =
       front_more ls i _ _ c.line_text.ensures c.loop-line-test.true _ _ _ c.loop-line.invariant.1 c.put-at.ensures.front,
       back_more c.args.out.now c.loop-line.out c.put-at.new.out c.loop-line.at _ c.put-at.result c.put-at.ensures.place c.loop-line.invariant.2 c.put-at.ensures.back,
     )
-
-pub returns : goal.returns
-returns c =
-    let ls = c.args.lines.now in
-    let i = c.loop-line.line-index in
-    let none = at_drop_all (λ l. length (flat_map line_text l)) ls i (omega arith) in
-    record {
-      place = omega arith;
-      front = c.loop-line.invariant.1 ∙ ap (λ l. take c.args.start c.args.out.now ++ flat_map line_text l) (take_all i ls (omega arith));
-      back = c.loop-line.invariant.2;
-    }

@@ -12,11 +12,14 @@ use Rattle.listing.specs.Rows.{line_text}
 use Rattle.listing.proofs.Rows.{value_more, line_short}
 use Rattle.listing.proofs.row.line_text.Goals as goal
 
+cons_append : (x : ℕ) (xs ys : List ℕ) → (x ∷ xs) ++ ys ≡ x ∷ (xs ++ ys)
+cons_append x xs ys = refl
+
 -- the values as they are pushed, one behind another, and as a row
 joined : (a b c d e f g h i : List ℕ) →
     ((((((((((a ++ 124 ∷ b) ++ 124 ∷ c) ++ 124 ∷ d) ++ 124 ∷ e) ++ 124 ∷ []) ++ f) ++ 124 ∷ g) ++ 124 ∷ h) ++ 124 ∷ i) ++ 10 ∷ [])
     ≡ marked 124 (a ∷ b ∷ c ∷ d ∷ e ∷ f ∷ g ∷ h ∷ i ∷ []) ++ 10 ∷ []
-joined a b c d e f g h i = rw (append_assoc, append_assoc, append_assoc, append_assoc, append_assoc, append_assoc, append_assoc, append_assoc, append_assoc) (simp append_assoc)
+joined a b c d e f g h i = simp (append_assoc, cons_append)
 
 pub returns : goal.returns
 returns c =
