@@ -1,5 +1,6 @@
 -- Which call of an open month a command makes, what the month answers, and what it leaves.
 use Rattle.std.specs.Prelude.{ℕ, cond, ℤ, Some, None, Ok, Err, Option, Result}
+use Rattle.std.specs.Result.{result_map_both}
 use Rattle.tariff.specs.declared.reading.Sheet.{Sheet}
 use Rattle.tariff.specs.declared.refusal.Refusal.{Refusal}
 use Rattle.tariff.specs.Shelves.{items}
@@ -14,13 +15,11 @@ use Rattle.job.specs.Said.{Said}
 use Rattle.job.specs.Said as says
 use Rattle.month.specs.declared.calls.Call.{Call}
 use Rattle.month.specs.declared.calls.Call.TheVariants as call
-use Rattle.month.specs.declared.calls.Outcome.{Outcome}
-use Rattle.month.specs.declared.calls.Outcome.TheVariants as outcomes
 use Rattle.month.specs.States.{State}
 use Rattle.month.specs.Answers.{answer as outcome_of, next}
 use Rattle.month.specs.Laws.{is_issue}
 use Rattle.clerk.specs.declared.answers.Answer.{Answer}
-use Rattle.clerk.specs.declared.answers.Answer.TheVariants.{Done, Lines, Cents, Peak, Refused}
+use Rattle.clerk.specs.declared.answers.Answer.TheVariants.{Done, Lines, Cents, Peak}
 
 -- a line that is no sheet is refused with 20 or 21
 abbrev pub sheet_call : Result Sheet FileFault → Result Call Refusal
@@ -46,24 +45,21 @@ call_of n says.Listing = None
 call_of n says.Close = None
 
 -- an accepted statement is answered with how many lines it wrote
-abbrev pub answer_to : Call → Outcome → Answer
-answer_to c outcomes.Pending = Done
-answer_to c (outcomes.Accepted n) = cond (is_issue c) (Lines n) Done
-answer_to c (outcomes.Refused e) = Refused e
+abbrev pub answer_to : Call → ℕ → Answer
+answer_to c n = cond (is_issue c) (Lines n) Done
 
-abbrev pub called : State → Result Call Refusal → Answer
-called s (Ok c) = answer_to c (outcome_of s c)
-called s (Err e) = Refused e
+abbrev pub called : State → Result Call Refusal → Result Answer Refusal
+called s (Ok c) = result_map_both (answer_to c) (λ e. e) (outcome_of s c)
+called s (Err e) = Err e
 
-abbrev pub in_cents : Result ℤ Refusal → Answer
-in_cents (Ok cents) = Cents cents
-in_cents (Err e) = Refused e
+abbrev pub in_cents : Result ℤ Refusal → Result Answer Refusal
+in_cents r = result_map_both Cents (λ e. e) r
 
 abbrev pub at_peak : Triple → Answer
 at_peak t = Peak t.0 t.1 t.2
 
 -- what is answered to a question
-abbrev pub asked : State → Said → Option Answer
+abbrev pub asked : State → Said → Option (Result Answer Refusal)
 asked s (says.Month year month holidays summer) = None
 asked s (says.Point letter line transformation) = None
 asked s (says.Open store places) = None
@@ -77,16 +73,16 @@ asked s (says.Issue statement) = None
 asked s (says.Credit statement charge transmitter) = Some (in_cents (if_sound s.ledger (credit_of statement charge transmitter (items s.ledger))))
 asked s (says.Total point charge customer transmitter) =
     Some (in_cents (if_sound s.ledger (total_of (record { point = point; charge = charge; customer = customer; transmitter = transmitter }) (items s.ledger))))
-asked s says.Peak = Some (at_peak (system_peak_of s.setup.kinds s.setup.days s.store.sheets))
+asked s says.Peak = Some (Ok (at_peak (system_peak_of s.setup.kinds s.setup.days s.store.sheets)))
 asked s says.Listing = None
 asked s says.Close = None
 
 -- by the call that a command makes, or as a question
-abbrev pub reply : State → Said → Option (Result Call Refusal) → Option Answer
+abbrev pub reply : State → Said → Option (Result Call Refusal) → Option (Result Answer Refusal)
 reply s x None = asked s x
 reply s x (Some c) = Some (called s c)
 
-abbrev pub replied : ℕ → State → Said → Option Answer
+abbrev pub replied : ℕ → State → Said → Option (Result Answer Refusal)
 replied n s x = reply s x (call_of n x)
 
 -- only a call alters the month

@@ -2,12 +2,12 @@
 ghost use Rattle.std.specs.Prelude.{◌≡◌};
 ghost use Rattle.job.specs.Said.{said};
 ghost use Rattle.month.specs.States.{state_of};
-ghost use Rattle.clerk.specs.Calls.{sheet_call, call_of, answer_to, called, moved, in_cents, asked, replied, left};
+ghost use Rattle.clerk.specs.Calls.{sheet_call, call_of, answer_to, called, moved, asked, replied, left};
 
 use hours::rules::HourRule;
 use job::command::Command;
 use ledger::line::Account;
-use month::calls::{Call, Outcome};
+use month::calls::Call;
 use month::month::OpenMonth;
 use readings::readings::SheetStore;
 use sheet_file::faults::FileFault;
@@ -22,7 +22,6 @@ pub enum Answer {
     Lines(usize),
     Cents(i64),
     Peak { quantity: u64, day: u32, hour: u32 },
-    Refused(Refusal),
 }
 
 // The call that a line of a sheet file makes: a post, if it is a sheet.
@@ -32,7 +31,8 @@ pub(crate) fn sheet_call(outcome: Result<Sheet, FileFault>) -> Result<Call, Refu
     Ok(Call::Post(outcome?))
 }
 
-// The call that a command on the line of number `line` makes of an open month, if it makes one.
+// The call that a command on the line of number `line` makes of an open month, if it makes one. Command and call are two
+// types, since who reads a job knows nothing of months, and a month nothing of jobs.
 fn call_of(line: u64, command: Command) -> Option<Result<Call, Refusal>>
     ensures { result ≡ call_of line (said command.entry) }
 {
@@ -72,27 +72,20 @@ fn call_of(line: u64, command: Command) -> Option<Result<Call, Refusal>>
 }
 
 // A statement's answer tells how many lines it wrote.
-fn answer_to(call: Call, outcome: Outcome) -> Answer
-    ensures { result ≡ answer_to call outcome }
+fn answer_to(call: Call, lines: usize) -> Answer
+    ensures { result ≡ answer_to call lines }
 {
-    match (outcome, call) {
-        (Outcome::Refused(refusal), _) => Answer::Refused(refusal),
-        (Outcome::Accepted(lines), Call::Issue(_)) => Answer::Lines(lines),
+    match call {
+        Call::Issue(_) => Answer::Lines(lines),
         _ => Answer::Done,
     }
 }
 
-fn in_cents(sum: Result<i64, Refusal>) -> Answer
-    ensures { result ≡ in_cents sum }
-{
-    match sum {
-        Ok(cents) => Answer::Cents(cents),
-        Err(refusal) => Answer::Refused(refusal),
-    }
-}
-
 // What a month, open or closed, answers to a question; None where the command is none.
-pub fn ask<S: SheetStore, H: HourRule>(month: &OpenMonth<S, H>, command: Command) -> Option<Answer>
+pub fn ask<S: SheetStore, H: HourRule>(
+    month: &OpenMonth<S, H>,
+    command: Command,
+) -> Option<Result<Answer, Refusal>>
     ensures { result ≡ asked (state_of S.Readings.meaning H.HourRule.admits month.now) (said command.entry) }
 {
     match command {
@@ -100,25 +93,32 @@ pub fn ask<S: SheetStore, H: HourRule>(month: &OpenMonth<S, H>, command: Command
             statement,
             charge,
             transmitter,
-        } => Some(in_cents(month.credit(statement, charge, transmitter))),
+        } => {
+            let sum = month.credit(statement, charge, transmitter);
+            Some(sum.map(Answer::Cents))
+        }
         Command::Total {
             point,
             charge,
             customer,
             transmitter,
-        } => Some(in_cents(month.total(&Account {
-            point,
-            charge,
-            customer,
-            transmitter,
-        }))),
+        } => {
+            let account = Account {
+                point,
+                charge,
+                customer,
+                transmitter,
+            };
+            let sum = month.total(&account);
+            Some(sum.map(Answer::Cents))
+        }
         Command::Peak => {
             let (quantity, day, hour) = month.peak();
-            Some(Answer::Peak {
+            Some(Ok(Answer::Peak {
                 quantity,
                 day,
                 hour,
-            })
+            }))
         }
         _ => None,
     }
@@ -128,14 +128,13 @@ pub fn ask<S: SheetStore, H: HourRule>(month: &OpenMonth<S, H>, command: Command
 pub(crate) fn make_call<S: SheetStore, H: HourRule>(
     month: &mut OpenMonth<S, H>,
     call: Result<Call, Refusal>,
-) -> Answer
+) -> Result<Answer, Refusal>
     ensures answer { result ≡ called (state_of S.Readings.meaning H.HourRule.admits month.old) call }
     ensures state { state_of S.Readings.meaning H.HourRule.admits month.new ≡ moved (state_of S.Readings.meaning H.HourRule.admits month.old) call }
 {
-    match call {
-        Ok(call) => answer_to(call, month.take(call)),
-        Err(refusal) => Answer::Refused(refusal),
-    }
+    let call = call?;
+    let lines = month.take(call)?;
+    Ok(answer_to(call, lines))
 }
 
 // What an open month answers to the command on the line of number `line`; None where it is neither a call nor a question,
@@ -144,7 +143,7 @@ pub fn take<S: SheetStore, H: HourRule>(
     month: &mut OpenMonth<S, H>,
     line: u64,
     command: Command,
-) -> Option<Answer>
+) -> Option<Result<Answer, Refusal>>
     ensures answer { result ≡ replied line (state_of S.Readings.meaning H.HourRule.admits month.old) (said command.entry) }
     ensures state { state_of S.Readings.meaning H.HourRule.admits month.new ≡ left line (state_of S.Readings.meaning H.HourRule.admits month.old) (said command.entry) }
 {

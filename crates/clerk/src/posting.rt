@@ -8,16 +8,15 @@ use hours::rules::HourRule;
 use month::month::OpenMonth;
 use readings::readings::SheetStore;
 use sheet_file::file::SheetReader;
+use tariff::refusal::Refusal;
 
 // Reads the next line of a file and posts its sheet; None at the file's end. A line that is no sheet changes nothing.
 pub fn post_next<S: SheetStore, H: HourRule>(
     month: &mut OpenMonth<S, H>,
     file: &mut SheetReader,
-) -> Option<Answer>
+) -> Option<Result<Answer, Refusal>>
     ensures { PostsNext (left_of file.old) (state_of S.Readings.meaning H.HourRule.admits month.old) result (left_of file.new) (state_of S.Readings.meaning H.HourRule.admits month.new) }
 {
-    match file.next_sheet() {
-        Some(outcome) => Some(make_call(month, sheet_call(outcome))),
-        None => None,
-    }
+    let outcome = file.next()?;
+    Some(make_call(month, sheet_call(outcome)))
 }

@@ -136,8 +136,5 @@ module _ (f g : Facts) (same : SameFacts f g) where
       (λ p a b. ap₂ (λ x y. cond (is_some x && is_some y) None (Some (NothingOnRecord p))) (same.customers p a b) (same.transmitters p a b))))
       ∙ ap refusal_of framed_is
 
-pub dues_alike : (f g : Facts) → SameFacts f g → (refusal_of f ≡ refusal_of g) × (dues_of f ≡ dues_of g)
-dues_alike f g same = (refusal_same f g same, dues_same f g same)
-
 pub answer_alike : (sound : Bool) (f g : Facts) → SameFacts f g → dues_answer sound f ≡ dues_answer sound g
 answer_alike sound f g same = ap₂ (λ o (ds : List DueFacts). cond sound (unless o ds) (Err Unsound)) (refusal_same f g same) (dues_same f g same)

@@ -24,7 +24,7 @@ use Rattle.dues.proofs.Rooms.{charge_dues, point_dues_are}
 use Rattle.dues.proofs.Among.{all_up_to}
 
 -- a point with a charge is declared
-declared_within : (kinds : List PointKind) (p : ℕ) (c : Charge) → has_charge (kind_at kinds p) c ≡ true → (1 ≤ p) × (p ≤ length kinds)
+pub declared_within : (kinds : List PointKind) (p : ℕ) (c : Charge) → has_charge (kind_at kinds p) c ≡ true → (1 ≤ p) × (p ≤ length kinds)
 declared_within kinds p c e = between_parts 1 (length kinds) p (by (within (length kinds) p) (get_or kinds (p - 1) Network) e)
   where
     by : (b : Bool) (k : PointKind) → has_charge (cond b (Some k) None) c ≡ true → b ≡ true
@@ -70,7 +70,7 @@ module _ (f : Facts) (system : Triple) (rates : Rates) where
       has_append_right (dues_up_to f system rates n) (point_dues f system rates (suc n)) d (subst (λ q. Has (point_dues f system rates q) d) is (point_has p c e)))
       (cases_lt p (suc n))
 
-  covers_own : (a : Account) → covers (due_of f system rates a.point a.charge) a ≡ true
+  pub covers_own : (a : Account) → covers (due_of f system rates a.point a.charge) a ≡ true
   unfolding due_of
   covers_own a = and_from _ _ (eqb_refl a.point) (eqb_refl (charge_number a.charge))
 
@@ -87,13 +87,6 @@ module _ (f : Facts) (r : Rates) (on : f.rates_on (last_day f) ≡ Some r) where
   due_among p c e =
       let (low, high) = declared_within f.kinds p c e in
       subst (λ l. Has l (due_of f (peak_of f) r p c)) (sym all_dues) (up_to_has f (peak_of f) r (length f.kinds) p c low high e)
-
-  -- a due that covers an account is the one of its point and charge
-  pub covering_due : (a : Account) → AllByRecursion (λ d. covers d a ≡ true → d ≡ due_of f (peak_of f) r a.point a.charge) (dues_of f)
-  covering_due a =
-      subst (AllByRecursion (λ d. covers d a ≡ true → d ≡ due_of f (peak_of f) r a.point a.charge)) (sym all_dues)
-      (all_up_to f (peak_of f) r (λ d. covers d a ≡ true → d ≡ due_of f (peak_of f) r a.point a.charge) (length f.kinds)
-      (λ p c _ _ _ e. let (ep, ec) = covered_is f (peak_of f) r p c a e in ap₂ (due_of f (peak_of f) r) ep ec))
 
   -- just the accounts of the charges that declared points have are covered
   pub covered : (a : Account) → any (λ d. covers d a) (dues_of f) ≡ has_charge (kind_at f.kinds a.point) a.charge

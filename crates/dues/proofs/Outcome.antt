@@ -10,7 +10,8 @@ use Rattle.ledger.specs.Lines.{every}
 use Rattle.ledger.specs.Dues.{DueFacts, sound_due}
 use Rattle.ledger.specs.Issues.{distinct}
 use Rattle.ledger.proofs.Issuing.{dues_sound}
-use Rattle.dues.specs.declared.list.DueList.{DueList}
+use Rattle.fixed_list.specs.declared.list.FixedList.{FixedList}
+use Rattle.ledger.specs.declared.due.Due.{Due}
 use Rattle.dues.specs.Facts.{Facts, last_day, refusal_of}
 use Rattle.dues.specs.Dues.{peak_of, dues_up_to, dues_at, dues_of, unless, dues_answer}
 use Rattle.dues.specs.Lists.{dues_in, facts_in}
@@ -60,7 +61,7 @@ answered true (Some r) x ds e = let z : ◌≡◌ {A = ℕ} 0 1 = cc in absurd (
 answered false o x ds e = let z : ◌≡◌ {A = ℕ} 0 1 = cc in absurd (omega arith)
 
 -- dues are sound by their type, and distinct since they are those of the month
-pub sound_out : (sound : Bool) (f : Facts) (r : Result DueList Refusal) → result_map_both facts_in (λ e. e) r ≡ dues_answer sound f
+pub sound_out : (sound : Bool) (f : Facts) (r : Result (FixedList Due 800) Refusal) → result_map_both facts_in (λ e. e) r ≡ dues_answer sound f
     → IfOk r (λ l. (every sound_due (facts_in l) ≡ true) × (distinct (facts_in l) ≡ true))
 sound_out sound f (Ok l) e = (dues_sound (dues_in l), ap distinct (answered sound (refusal_of f) (facts_in l) (dues_of f) e) ∙ dues_distinct f)
 sound_out sound f (Err x) e = tt

@@ -1,6 +1,7 @@
 -- How many dues there are: a list of 800 has room for those of 400 points.
-use Rattle.std.proofs.Common.{◌≡◌, ℕ, zero, suc, ◌+◌, ◌*◌, ◌<◌, ◌≤◌, Bool, true, false, cond, List, [], ◌∷◌, ◌++◌, length, take, set, Some, None, Option, refl, ap, ◌∙◌, ap₂, append_assoc, add-one, arith}
-use Rattle.std.proofs.lemmas.List.{length-append, length-map, length-take-le, map-append, take_more_set}
+use Rattle.std.proofs.Common.{◌≡◌, ℕ, zero, suc, ◌+◌, ◌-◌, ◌*◌, ◌<◌, ◌≤◌, Bool, true, false, cond, List, [], ◌∷◌, ◌++◌, length, Some, None, Option, sym, refl, ap, ◌∙◌, ap₂, append_assoc, arith}
+use Rattle.std.proofs.lemmas.List.{length-append, length-map, map-append}
+use Rattle.readings.specs.Options.{none_some}
 use Rattle.tariff.specs.declared.charge.Charge.{Charge}
 use Rattle.tariff.specs.declared.charge.Charge.TheVariants as charge
 use Rattle.tariff.specs.declared.parties.Rates.{Rates}
@@ -9,10 +10,8 @@ use Rattle.tariff.specs.declared.points.PointKind.TheVariants.{Network, Connecti
 use Rattle.tariff.specs.Points.{kind_at}
 use Rattle.demand.specs.Peaks.{Triple}
 use Rattle.ledger.specs.declared.due.Due.{Due}
-use Rattle.ledger.specs.Dues.{DueFacts, facts_of, all_facts}
-use Rattle.dues.specs.declared.list.DueList.{DueList}
+use Rattle.ledger.specs.Dues.{DueFacts, facts_of, facts_if, all_facts}
 use Rattle.dues.specs.Facts.{Facts}
-use Rattle.dues.specs.Lists.{dues_in, facts_in}
 use Rattle.dues.specs.Dues.{has_charge, charge_count, due_of, when, point_dues, dues_up_to}
 
 when_length : (b : Bool) (x : DueFacts) → length (when b x) ≡ cond b 1 0
@@ -51,8 +50,9 @@ module _ (f : Facts) (system : Triple) (rates : Rates) where
   dues_few (suc n) =
       omega (arith, length-append (dues_up_to f system rates n) (point_dues f system rates (suc n)), dues_few n, point_length (suc n), two_at_most (kind_at f.kinds (suc n)))
 
-  pub dues_more : (k : ℕ) → dues_up_to f system rates k ++ point_dues f system rates (k + 1) ≡ dues_up_to f system rates (k + 1)
-  dues_more k = rw add-one
+  pub dues_more : (p : ℕ) → 1 ≤ p → dues_up_to f system rates (p - 1) ++ point_dues f system rates p ≡ dues_up_to f system rates p
+  dues_more zero low = absurd (omega arith)
+  dues_more (suc k) low = let e : suc k - 1 ≡ k = omega arith in ap (λ n. dues_up_to f system rates n ++ point_dues f system rates (suc k)) e
 
 -- one charge of a point, added if the point has it
 pub when_added : (m m' : List DueFacts) (b : Bool) (x : DueFacts) → m' ≡ m ++ when b x → length m' ≡ length m + cond b 1 0
@@ -62,16 +62,10 @@ when_added m m' b x e = ap length e ∙ (length-append m (when b x) ∙ ap (λ n
 pub three_added : (m m₁ m₂ m₃ a b c : List DueFacts) → m₁ ≡ m ++ a → m₂ ≡ m₁ ++ b → m₃ ≡ m₂ ++ c → m₃ ≡ m ++ (a ++ (b ++ c))
 three_added m m₁ m₂ m₃ a b c e₁ e₂ e₃ = simp (e₃, e₂, e₁, append_assoc)
 
--- ---- a place of a list
-
-module _ (l : DueList) (room : length (facts_in l) < 800) where
-  pub room_left : l.count < 800
-  room_left =
-      let few = l.few in
-      let full = l.full in
-      omega (arith, room, length-map (dues_in l) facts_of, length-take-le l.count l.dues (omega arith))
-
-  pub one_added : (due : Due) → all_facts (take (l.count + 1) (set l.dues l.count due)) ≡ facts_in l ++ (facts_of due ∷ [])
-  one_added due =
-      let full = l.full in
-      ap all_facts (take_more_set l.dues l.count due (omega (arith, room_left))) ∙ map-append facts_of (dues_in l) (due ∷ [])
+-- what is pushed for a charge, if anything, is what is due for it
+pub added : (l m : List Due) (due : Due) (b : Bool) (x : DueFacts) → (length l < 800 → m ≡ l ++ due ∷ []) → length (all_facts l) + cond b 1 0 ≤ 800
+    → facts_if (Some due) ≡ cond b (Some x) None → all_facts m ≡ all_facts l ++ when b x
+added l m due true x kept room is =
+    let same : facts_of due ≡ x = cc in
+    ap all_facts (kept (omega (arith, room, length-map l facts_of))) ∙ (map-append facts_of l (due ∷ []) ∙ ap (λ d. all_facts l ++ d ∷ []) same)
+added l m due false x kept room is = none_some (facts_of due) (sym is)

@@ -62,19 +62,22 @@ limited kinds days first m admits r few month sound e =
       rates = λ d. record_passes rates_in_range 0 0 r.rates 0 d three.1;
     }
 
-month_in : (c : Calendar) → length_in c ≤ 31
+pub month_in : (c : Calendar) → length_in c ≤ 31
 month_in c =
     cond_both (eqb c.month 2) _ _ (λ n. n ≤ 31)
     (λ _. cond_both (is_leap c.year) 29 28 (λ n. n ≤ 31) (λ _. omega arith) (λ _. omega arith))
     (λ _. cond_both (is_short c.month) 30 31 (λ n. n ≤ 31) (λ _. omega arith) (λ _. omega arith))
 
-points_in : (l : PointList) → length (kinds_of l) ≤ 400
-points_in l = let few = l.few in let full = l.full in omega (arith, length-take-le l.count l.kinds (omega arith))
+pub points_in : (l : PointList) → length (kinds_of l) ≤ 400
+points_in l =
+    let few = l.kinds.few in
+    let full = l.kinds.full in
+    omega (arith, length-take-le l.kinds.count l.kinds.places (omega arith))
 
 pub limited_for : {R H : Type 0} (meaning : R → Meaning) → ((s : R) → Sound (meaning s)) → (admits : H → ℕ → ℕ → Bool) (w : Workings R H)
-    → sound_records (records_of w.histories) ≡ true → Limited (facts_for meaning admits w)
+    → sound_records (records_of w.histories.now) ≡ true → Limited (facts_for meaning admits w)
 limited_for meaning sound admits w e =
-    limited (kinds_of w.points.now) (length_in w.calendar.now) (first_in w.calendar.now) (meaning w.readings.now) (admits w.peak_period.now) (records_of w.histories)
+    limited (kinds_of w.points.now) (length_in w.calendar.now) (first_in w.calendar.now) (meaning w.readings.now) (admits w.peak_period.now) (records_of w.histories.now)
     (points_in w.points.now) (month_in w.calendar.now) (sound w.readings.now) e
 
 -- ---- quantities, days and hours

@@ -11,13 +11,13 @@ use Rattle.dues.specs.Facts.{Facts, facts_by}
 
 abbrev pub records_of : Histories → Records
 records_of h = record {
-  customers = shelf_of h.customers.now;
-  transmitters = shelf_of h.transmitters.now;
-  service = shelf_of h.service.now;
-  rates = shelf_of h.rates.now;
+  customers = shelf_of h.customers;
+  transmitters = shelf_of h.transmitters;
+  service = shelf_of h.service;
+  rates = shelf_of h.rates;
 }
 
 abbrev pub facts_for : {R H : Type 0} → (R → Meaning) → (H → ℕ → ℕ → Bool) → Workings R H → Facts
 facts_for meaning admits w =
     facts_by (kinds_of w.points.now) (length_in w.calendar.now) (first_in w.calendar.now)
-    (meaning w.readings.now).sheets (admits w.peak_period.now) (records_of w.histories)
+    (meaning w.readings.now).sheets (admits w.peak_period.now) (records_of w.histories.now)

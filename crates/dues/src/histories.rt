@@ -16,15 +16,15 @@ use tariff::refusal::Refusal;
 // The subject that the rates stand under; the subjects of the other histories are points.
 pub const RATES_SUBJECT: u32 = 0;
 
-#[derive(Clone, Copy)]
-pub struct Histories<'a, 'm> {
-    pub customers: &'a History<'m, PartyNumber>,
-    pub transmitters: &'a History<'m, PartyNumber>,
-    pub service: &'a History<'m, Service>,
-    pub rates: &'a History<'m, Rates>,
+#[derive(Drop)]
+pub struct Histories<'m> {
+    pub customers: History<'m, PartyNumber>,
+    pub transmitters: History<'m, PartyNumber>,
+    pub service: History<'m, Service>,
+    pub rates: History<'m, Rates>,
 }
 
-impl Histories<'_, '_> {
+impl Histories<'_> {
     // Refuses histories of which one is not sound.
     #[tactic(auto, using(crate::proofs::Outcome::passed_here, crate::proofs::Outcome::refused_here))]
     pub fn check(&self) -> Result<(), Refusal>
@@ -53,11 +53,6 @@ impl Histories<'_, '_> {
     pub(crate) fn first_unrecorded(&self, points: u32, day: u32) -> Option<Refusal>
         ensures { result ≡ first_of (no_parties (latest (items (records_of self.now).customers)) (latest (items (records_of self.now).transmitters)) day) points }
     {
-        for k in 0..points {
-            if let Some(refusal) = self.missing_parties(k + 1, day) {
-                return Some(refusal);
-            }
-        }
-        None
+        (1..=points).find_map(|point| self.missing_parties(point, day))
     }
 }

@@ -1,6 +1,6 @@
 // How the dues of a month are worked out.
-mod dues;
 mod questions;
+mod rated;
 
 use crate::histories::Histories;
 use calendar::month::Calendar;
@@ -13,5 +13,5 @@ pub struct Workings<'a, 'm, 'p, R, H> {
     pub calendar: &'a Calendar,
     pub readings: &'a R,
     pub peak_period: &'p H,
-    pub histories: Histories<'a, 'm>,
+    pub histories: &'a Histories<'m>,
 }

@@ -26,19 +26,15 @@ use Rattle.dues.specs.Records.{sound_records}
 use Rattle.dues.specs.Facts.{refusal_of}
 use Rattle.dues.specs.Dues.{dues_of, unless}
 use Rattle.month.specs.States.{State, facts_at}
-use Rattle.month.specs.Answers.{store_fits, post_answer, if_connection, from_day_answer, party_answer, service_answer, rates_answer, issue_of, issue_answer, plain, counted, is_accepted}
+use Rattle.month.specs.Answers.{store_fits, post_answer, if_connection, from_day_answer, party_answer, service_answer, rates_answer, issue_of, issue_answer, plain}
 
 passed : {X : Type 0} (b : Bool) (r : Result X Refusal) (e : Refusal) → is_ok (cond b r (Err e)) ≡ true → (b ≡ true) × (is_ok r ≡ true)
 passed true r e h = (refl, h)
 passed false r e h = absurd (false≢true h)
 
-pub plain_accepted : (r : Result (Unit {0}) Refusal) → is_accepted (plain r) ≡ is_ok r
+pub plain_accepted : (r : Result (Unit {0}) Refusal) → is_ok (plain r) ≡ is_ok r
 plain_accepted (Ok x) = refl
 plain_accepted (Err e) = refl
-
-pub counted_accepted : (r : Result ℕ Refusal) → is_accepted (counted r) ≡ is_ok r
-counted_accepted (Ok n) = refl
-counted_accepted (Err e) = refl
 
 no_quantity : (o : Option ℕ) → is_ok (quantities_judged o) ≡ true → o ≡ None
 no_quantity None h = refl

@@ -1,6 +1,6 @@
 -- What the functions that enter answer and leave, by how far they came.
 use Rattle.std.proofs.Common.{◌≡◌, ℕ, ◌≤◌, Bool, true, false, cond, leb, List, length, is_ok, is_err, Some, Ok, Err, Result, sym, refl, ap, ◌∙◌, arith}
-use Rattle.std.proofs.lemmas.Bool.{cond-true, cond-false, le-leb, false≢true}
+use Rattle.std.proofs.lemmas.Bool.{cond-true, cond-false, false≢true}
 use Rattle.tariff.specs.declared.parties.PartyNumber.{PartyNumber}
 use Rattle.tariff.specs.declared.parties.Rates.{Rates}
 use Rattle.tariff.specs.declared.parties.Service.{Service}
@@ -41,35 +41,26 @@ entered_if h h' e r says leaves = go (has_place h e) says leaves
     go true s l = l ∙ sym (cond-true (is_ok r) (with_entry h e) h (ap is_ok s))
     go false s l = l ∙ sym (cond-false (is_ok r) h h (ap is_ok s))
 
-from_day_reached : {T : Type 0} (h : Shelf (Dated T)) (k d : ℕ) (x : T) (b : Bool) (e : Refusal) → d ≤ 36524 → b ≡ true → from_day_answer h k d x b e ≡ entry_answer h (dated k d x)
-from_day_reached h k d x b e le ok =
-    let entry = entry_answer h (dated k d x) in
-    cond-true (leb d 36524) (cond b entry (Err e)) (Err DayOutOfRange) (le-leb d 36524 le) ∙ cond-true b entry (Err e) ok
-
 pub party_reached : (kinds : List PointKind) (h : Shelf (Dated PartyNumber)) (p d : ℕ) (k : PartyNumber) (u : Unit {0})
-    → Ok u ≡ check_answer party_in_range 1 400 h → 1 ≤ p → p ≤ length kinds → d ≤ 36524 → party_in_range k ≡ true
-    → party_answer kinds h p d k ≡ entry_answer h (dated p d k)
-party_reached kinds h p d k u sound low high le ok =
+    → Ok u ≡ check_answer party_in_range 1 400 h → 1 ≤ p → p ≤ length kinds
+    → party_answer kinds h p d k ≡ from_day_answer h p d k (party_in_range k) PartyOutOfRange
+party_reached kinds h p d k u sound low high =
     let entry = from_day_answer h p d k (party_in_range k) PartyOutOfRange in
     cond-true (sound_within party_in_range 1 400 h) (cond (within (length kinds) p) entry (Err UnknownPoint)) (Err Unsound) (sound_is _ u sound)
     ∙ cond-true (within (length kinds) p) entry (Err UnknownPoint) (within_from (length kinds) p low high)
-    ∙ from_day_reached h p d k (party_in_range k) PartyOutOfRange le ok
 
 pub service_reached : (kinds : List PointKind) (h : Shelf (Dated Service)) (p d : ℕ) (x : Service) (kind : PointKind) (u : Unit {0})
-    → Ok u ≡ check_answer (λ _. true) 1 400 h → kind_at kinds p ≡ Some kind → is_network kind ≡ false → d ≤ 36524
-    → service_answer kinds h p d x ≡ entry_answer h (dated p d x)
-service_reached kinds h p d x kind u sound is other le =
+    → Ok u ≡ check_answer (λ _. true) 1 400 h → kind_at kinds p ≡ Some kind → is_network kind ≡ false
+    → service_answer kinds h p d x ≡ from_day_answer h p d x true Unsound
+service_reached kinds h p d x kind u sound is other =
     let entry = entry_answer h (dated p d x) in
     let from-day = cond (leb d 36524) entry (Err DayOutOfRange) in
     cond-true (sound_within (λ _. true) 1 400 h) (if_connection (kind_at kinds p) from-day) (Err Unsound) (sound_is _ u sound)
     ∙ ap (λ o. if_connection o from-day) is
     ∙ cond-false (is_network kind) (Err ServiceOfNetworkPoint) from-day other
-    ∙ cond-true (leb d 36524) entry (Err DayOutOfRange) (le-leb d 36524 le)
 
 pub rates_reached : (h : Shelf (Dated Rates)) (d : ℕ) (x : Rates) (u : Unit {0})
-    → Ok u ≡ check_answer rates_in_range 0 0 h → d ≤ 36524 → rates_in_range x ≡ true
-    → rates_answer h d x ≡ entry_answer h (dated 0 d x)
-rates_reached h d x u sound le ok =
+    → Ok u ≡ check_answer rates_in_range 0 0 h → rates_answer h d x ≡ from_day_answer h 0 d x (rates_in_range x) RateTooHigh
+rates_reached h d x u sound =
     let entry = from_day_answer h 0 d x (rates_in_range x) RateTooHigh in
     cond-true (sound_within rates_in_range 0 0 h) entry (Err Unsound) (sound_is _ u sound)
-    ∙ from_day_reached h 0 d x (rates_in_range x) RateTooHigh le ok

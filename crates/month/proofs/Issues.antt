@@ -1,5 +1,5 @@
 -- What an issue answers and leaves, by how far it came.
-use Rattle.std.proofs.Common.{◌≡◌, ℕ, Bool, true, false, cond, List, Some, None, Ok, Err, Option, Result, sym, ap, ◌∙◌, arith}
+use Rattle.std.proofs.Common.{◌≡◌, ℕ, Bool, true, false, cond, List, is_ok, Some, None, Ok, Err, Option, Result, sym, ap, ◌∙◌, arith}
 use Rattle.std.proofs.lemmas.Bool.{cond-true}
 use Rattle.tariff.specs.declared.refusal.Refusal.{Refusal}
 use Rattle.tariff.specs.declared.refusal.Refusal.TheVariants.{StoreDoesNotFit, OutOfTurn, Unsound}
@@ -13,9 +13,8 @@ use Rattle.dues.specs.Records.{sound_records}
 use Rattle.dues.specs.Facts.{refusal_of}
 use Rattle.dues.specs.Dues.{dues_of, dues_answer, unless}
 use Rattle.month.specs.declared.calls.Call.TheVariants.{Issue}
-use Rattle.month.specs.declared.calls.Outcome.TheVariants.{Accepted}
 use Rattle.month.specs.States.{State, facts_at}
-use Rattle.month.specs.Answers.{store_fits, dues_to_issue, issue_of, issue_answer, counted, is_accepted, answer, taken, next}
+use Rattle.month.specs.Answers.{store_fits, dues_to_issue, issue_of, issue_answer, answer, taken, next}
 use Rattle.month.proofs.Entering.{sound_is}
 
 err_ok : {X E Y : Type 0} {e : E} {x : X} → Ok x ≡ Err e → Y
@@ -68,11 +67,11 @@ module _ (s : State) (st : Statement) (ds : List DueFacts) (by : Ok ds ≡ dues_
   answer_is = ap (issue_of s.ledger st) by
 
   pub issue_accepted : (n : ℕ) (g : Shelf Line) → Ok n ≡ ledger_answer s.ledger st ds → g ≡ issued s.ledger st ds
-      → (Accepted n ≡ answer s (Issue st))
+      → (Ok n ≡ answer s (Issue st))
       × (record { setup = s.setup; store = s.store; records = s.records; ledger = g; last = Some st } ≡ next s (Issue st))
   issue_accepted n g says leaves =
       let is : Ok n ≡ issue_answer s st = says ∙ answer_is in (
-        ap counted is,
+        is,
         ap (λ x. record { setup = s.setup; store = s.store; records = s.records; ledger = x; last = Some st }) (leaves ∙ ap (issued s.ledger st) dues_are)
-            ∙ sym (cond-true (is_accepted (answer s (Issue st))) (taken s (Issue st)) s (ap (λ x. is_accepted (counted x)) (sym is))),
+            ∙ sym (cond-true (is_ok (answer s (Issue st))) (taken s (Issue st)) s (ap is_ok (sym is))),
       )

@@ -1,9 +1,9 @@
 -- What every call of a month keeps.
 use Rattle.std.proofs.Common.{◌≡◌, ℕ, zero, suc, ◌+◌, ◌-◌, ◌≤◌, Bool, true, false, cond, ◌&&◌, eqb, leb, List, [], ◌∷◌, length, get_or, ℤ, pos, is_ok, Some, None, Option, sym, refl, ap, ◌∙◌, subst, ap₂, arith}
 use mathlib.Core.Path.{fun_ext}
-use Rattle.std.proofs.lemmas.Bool.{and_parts, cond_both, cond-true, leb-true}
+use Rattle.std.proofs.lemmas.Bool.{and_parts, cond_both, cond-true, leb-true, and_right}
 use Rattle.tariff.specs.declared.reading.Reading.{Reading}
-use Rattle.tariff.specs.declared.reading.Reading.TheVariants.{Withdrawal, Injection}
+use Rattle.tariff.specs.declared.reading.Reading.TheVariants.{Withdrawal}
 use Rattle.tariff.specs.declared.reading.Sheet.{Sheet}
 use Rattle.tariff.specs.declared.statement.Statement.{Statement}
 use Rattle.tariff.specs.Parties.{party_in_range, rates_in_range}
@@ -12,6 +12,7 @@ use Rattle.tariff.specs.Ranges.{within}
 use Rattle.tariff.specs.Readings.{quantity_of, demand_of, too_large}
 use Rattle.tariff.specs.Shelves.{Shelf, items}
 use Rattle.readings.specs.Demands.{demand_if, demand_at}
+use Rattle.readings.proofs.Bounds.{demand_le}
 use Rattle.readings.specs.Meaning.{Sheets, hour_of}
 use Rattle.readings.specs.Options.{from_none}
 use Rattle.records.specs.declared.dated.Dated.{Dated}
@@ -34,10 +35,10 @@ use Rattle.month.specs.declared.calls.Call.{Call}
 use Rattle.month.specs.declared.calls.Call.TheVariants.{Post, Customer, Transmitter, Service, Rates, Issue}
 use Rattle.month.specs.declared.calls.JournalEntry.{JournalEntry}
 use Rattle.month.specs.States.{Setup, State, facts_at}
-use Rattle.month.specs.Answers.{post_answer, party_answer, service_answer, rates_answer, issue_answer, answer, is_accepted, taken, next}
+use Rattle.month.specs.Answers.{post_answer, party_answer, service_answer, rates_answer, answer, taken, next}
 use Rattle.month.specs.Books.{Book, written, noted, facts_from, due_by, due}
 use Rattle.month.specs.Laws.{is_issue, accepted_issue}
-use Rattle.month.proofs.Accepting.{plain_accepted, counted_accepted, post_limited, party_entered, service_entered, rates_entered, Issuable, issuable}
+use Rattle.month.proofs.Accepting.{plain_accepted, post_limited, party_entered, service_entered, rates_entered, Issuable, issuable}
 use Rattle.month.proofs.Owing.{now_due, nothing_due}
 
 -- the book that a state holds
@@ -98,10 +99,6 @@ facts_book s o =
 
 -- ---- a sheet
 
-demand_le : (r : Reading) → demand_of r ≤ quantity_of r
-demand_le (Withdrawal q) = omega arith
-demand_le (Injection q) = omega arith
-
 within_limit : (k : ℕ) (rs : List Reading) → too_large k rs ≡ None → (i : ℕ) → demand_of (get_or rs i (Withdrawal 0)) ≤ 99999999
 within_limit k [] none i = omega arith
 within_limit k (r ∷ rs) none zero =
@@ -128,11 +125,11 @@ entered_order h e o = (booked h (entered_shelf h e) e (entry_answer h e) refl re
 
 -- ---- one accepted call
 
-accepted_post : (s : State) (x : Sheet) → is_accepted (answer s (Post x)) ≡ true → too_large 1 x.readings ≡ None
+accepted_post : (s : State) (x : Sheet) → is_ok (answer s (Post x)) ≡ true → too_large 1 x.readings ≡ None
 accepted_post s x e = post_limited s x (sym (plain_accepted (post_answer s x)) ∙ e)
 
-accepted_issue_is : (s : State) (st : Statement) → is_accepted (answer s (Issue st)) ≡ true → Issuable s st
-accepted_issue_is s st e = issuable s st (sym (counted_accepted (issue_answer s st)) ∙ e)
+accepted_issue_is : (s : State) (st : Statement) → is_ok (answer s (Issue st)) ≡ true → Issuable s st
+accepted_issue_is s st e = issuable s st e
 
 taken_setup : (s : State) (c : Call) → (taken s c).setup ≡ s.setup
 taken_setup s (Post x) = refl
@@ -142,7 +139,7 @@ taken_setup s (Service p d x) = refl
 taken_setup s (Rates d x) = refl
 taken_setup s (Issue st) = refl
 
-taken_book : (s : State) (c : Call) → is_accepted (answer s c) ≡ true → book_in (taken s c) ≡ written (book_in s) c
+taken_book : (s : State) (c : Call) → is_ok (answer s c) ≡ true → book_in (taken s c) ≡ written (book_in s) c
 taken_book s (Post x) e = refl
 taken_book s (Customer p d k) e =
     let h = s.records.customers in
@@ -174,7 +171,7 @@ taken_order s o (Service p d x) = record { customers = o.customers; transmitters
 taken_order s o (Rates d x) = record { customers = o.customers; transmitters = o.transmitters; service = o.service; rates = entered_order s.records.rates (dated 0 d x) o.rates }
 taken_order s o (Issue st) = record { customers = o.customers; transmitters = o.transmitters; service = o.service; rates = o.rates }
 
-taken_limited : (s : State) → DemandsLimited s.store.sheets → (c : Call) → is_accepted (answer s c) ≡ true → DemandsLimited (taken s c).store.sheets
+taken_limited : (s : State) → DemandsLimited s.store.sheets → (c : Call) → is_ok (answer s c) ≡ true → DemandsLimited (taken s c).store.sheets
 taken_limited s l (Post x) e = posted_limited s.store.sheets x l (accepted_post s x e)
 taken_limited s l (Customer p d k) e = l
 taken_limited s l (Transmitter p d k) e = l
@@ -199,7 +196,7 @@ facts_limited s few month demands sound =
     }
 
 module _ (u : Setup) (s : State) (b : Book) (met : Option Book) (kept : Kept u s b met) where
-  taken_sound : (c : Call) → is_accepted (answer s c) ≡ true → length s.setup.kinds ≤ 400 → s.setup.days ≤ 31 → sound_ledger (taken s c).ledger ≡ true
+  taken_sound : (c : Call) → is_ok (answer s c) ≡ true → length s.setup.kinds ≤ 400 → s.setup.days ≤ 31 → sound_ledger (taken s c).ledger ≡ true
   taken_sound (Post x) e few month = kept.sound few month
   taken_sound (Customer p d k) e few month = kept.sound few month
   taken_sound (Transmitter p d k) e few month = kept.sound few month
@@ -217,7 +214,7 @@ module _ (u : Setup) (s : State) (b : Book) (met : Option Book) (kept : Kept u s
       go None = refl
       go (Some x) = nothing_due (facts_from u x) a (ap (λ v. has_charge (kind_at v.kinds a.point) a.charge) (sym kept.setup) ∙ lacks)
 
-  issue_owes : (st : Statement) → is_accepted (answer s (Issue st)) ≡ true → (a : Account) → total_of a (items (taken s (Issue st)).ledger) ≡ due u b a
+  issue_owes : (st : Statement) → is_ok (answer s (Issue st)) ≡ true → (a : Account) → total_of a (items (taken s (Issue st)).ledger) ≡ due u b a
   issue_owes st e a =
       let f = facts_at s in
       let ok = accepted_issue_is s st e in
@@ -228,7 +225,7 @@ module _ (u : Setup) (s : State) (b : Book) (met : Option Book) (kept : Kept u s
       ∙ ap (λ x. due_by x a) (facts_book s kept.order)
       ∙ ap₂ (λ v x. due v x a) kept.setup kept.book
 
-  taken_owes : (c : Call) → is_accepted (answer s c) ≡ true → (a : Account) → total_of a (items (taken s c).ledger) ≡ owed u (cond (is_issue c) (Some b) met) a
+  taken_owes : (c : Call) → is_ok (answer s c) ≡ true → (a : Account) → total_of a (items (taken s c).ledger) ≡ owed u (cond (is_issue c) (Some b) met) a
   taken_owes (Post x) e a = kept.owes a
   taken_owes (Customer p d k) e a = kept.owes a
   taken_owes (Transmitter p d k) e a = kept.owes a
@@ -236,7 +233,7 @@ module _ (u : Setup) (s : State) (b : Book) (met : Option Book) (kept : Kept u s
   taken_owes (Rates d x) e a = kept.owes a
   taken_owes (Issue st) e a = issue_owes st e a
 
-  taken_kept : (c : Call) → is_accepted (answer s c) ≡ true → Kept u (taken s c) (written b c) (cond (is_issue c) (Some b) met)
+  taken_kept : (c : Call) → is_ok (answer s c) ≡ true → Kept u (taken s c) (written b c) (cond (is_issue c) (Some b) met)
   taken_kept c e = record {
     setup = taken_setup s c ∙ kept.setup;
     book = taken_book s c e ∙ ap (λ x. written x c) kept.book;
@@ -249,20 +246,16 @@ module _ (u : Setup) (s : State) (b : Book) (met : Option Book) (kept : Kept u s
 -- ---- one call, by whether it is accepted
 
 abbrev pub filled : State → Call → JournalEntry
-filled s c = record { call = c; outcome = answer s c }
+filled s c = record { call = c; outcome = Some (answer s c) }
 
 and_true : (x : Bool) → (x && true) ≡ x
 and_true true = refl
 and_true false = refl
 
-and_false : (x : Bool) → (x && false) ≡ false
-and_false true = refl
-and_false false = refl
-
 module _ (u : Setup) (s : State) (b : Book) (met : Option Book) (kept : Kept u s b met) (c : Call) where
-  by_answer : (ok : Bool) → (ok ≡ true → is_accepted (answer s c) ≡ true) → Kept u (cond ok (taken s c) s) (cond ok (written b c) b) (cond (is_issue c && ok) (Some b) met)
+  by_answer : (ok : Bool) → (ok ≡ true → is_ok (answer s c) ≡ true) → Kept u (cond ok (taken s c) s) (cond ok (written b c) b) (cond (is_issue c && ok) (Some b) met)
   by_answer true says = subst (λ x. Kept u (taken s c) (written b c) (cond x (Some b) met)) (sym (and_true (is_issue c))) (taken_kept u s b met kept c (says refl))
-  by_answer false says = subst (λ x. Kept u s b (cond x (Some b) met)) (sym (and_false (is_issue c))) kept
+  by_answer false says = subst (λ x. Kept u s b (cond x (Some b) met)) (sym (and_right (is_issue c) false refl)) kept
 
   pub keeps : Kept u (next s c) (noted b (filled s c)) (cond (accepted_issue (filled s c)) (Some b) met)
-  keeps = by_answer (is_accepted (answer s c)) (λ e. e)
+  keeps = by_answer (is_ok (answer s c)) (λ e. e)

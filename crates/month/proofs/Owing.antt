@@ -3,42 +3,25 @@ use Rattle.std.proofs.Common.{◌≡◌, ℕ, ◌≤◌, Bool, true, false, cond
 use Rattle.std.specs.Option.{option_or}
 use Rattle.std.specs.List.{AllByRecursion}
 use Rattle.std.proofs.ByRecursion.{all-has}
-use Rattle.std.proofs.lemmas.Bool.{and_parts, and_from, false≢true}
-use Rattle.tariff.specs.declared.charge.Charge.{Charge}
+use Rattle.std.proofs.lemmas.Bool.{and_parts, false≢true}
 use Rattle.tariff.specs.declared.parties.PartyNumber.{PartyNumber}
 use Rattle.tariff.specs.declared.parties.Rates.{Rates}
-use Rattle.tariff.specs.declared.points.PointKind.{PointKind}
 use Rattle.tariff.specs.declared.refusal.Refusal.{Refusal}
 use Rattle.tariff.specs.declared.refusal.Refusal.TheVariants.{NothingOnRecord}
-use Rattle.tariff.specs.Charges.{charge_number}
 use Rattle.tariff.specs.Points.{kind_at}
-use Rattle.tariff.specs.Ranges.{within, between_parts}
 use Rattle.readings.specs.Missing.{first_of, first_missing}
 use Rattle.readings.specs.Options.{none_some, from_none}
 use Rattle.readings.proofs.Firsts.{right_none, left_none, none_before}
 use Rattle.demand.specs.Peaks.{Triple}
 use Rattle.ledger.specs.declared.line.Account.{Account}
 use Rattle.ledger.specs.declared.line.Line.{Line}
-use Rattle.ledger.specs.Issues.{covers, is_on_record, Settled, Unmoved}
+use Rattle.ledger.specs.Issues.{is_on_record, Settled, Unmoved}
 use Rattle.ledger.specs.Lines.{same_party}
 use Rattle.ledger.specs.Sums.{total_of}
-use Rattle.ledger.proofs.Cents.{eqb_refl}
 use Rattle.dues.specs.Facts.{Facts, last_day, no_rates, no_parties, refusal_of}
 use Rattle.dues.specs.Dues.{has_charge, peak_of, party_or_none, due_of, dues_of}
-use Rattle.dues.proofs.Covering.{due_among, covered}
+use Rattle.dues.proofs.Covering.{declared_within, covers_own, due_among, covered}
 use Rattle.month.specs.Books.{is_party, on_record, charge_due, due_by}
-
--- a point that has a charge is declared
-declared_point : (kinds : List PointKind) (p : ℕ) (c : Charge) → has_charge (kind_at kinds p) c ≡ true → (1 ≤ p) × (p ≤ length kinds)
-declared_point kinds p c e = between_parts 1 (length kinds) p (go (within (length kinds) p) _ e)
-  where
-    go : (b : Bool) (kind : PointKind) → has_charge (cond b (Some kind) None) c ≡ true → b ≡ true
-    go true kind h = refl
-    go false kind h = h
-
-covers_own : (f : Facts) (system : Triple) (rates : Rates) (a : Account) → covers (due_of f system rates a.point a.charge) a ≡ true
-unfolding due_of
-covers_own f system rates a = and_from _ _ (eqb_refl a.point) (eqb_refl (charge_number a.charge))
 
 party_is : (o : Option PartyNumber) (k : PartyNumber) → is_some o ≡ true → same_party (party_or_none o) k ≡ is_party o k
 party_is None k e = absurd (false≢true e)
@@ -77,7 +60,7 @@ module _ (f : Facts) (complete : refusal_of f ≡ None) where
         → (b : Bool) → has_charge (kind_at f.kinds a.point) a.charge ≡ b → (b ≡ false → total_of a old ≡ pos 0)
         → total_of a new ≡ cond (b && on_record f a) (charge_due f (Some rates) a) (pos 0)
     by_charge rates on true is before =
-        let at = declared_point f.kinds a.point a.charge is in
+        let at = declared_within f.kinds a.point a.charge is in
         let due = due_of f (peak_of f) rates a.point a.charge in
         all-has (Settled new) (dues_of f) due all (due_among f rates on a.point a.charge is) a (covers_own f (peak_of f) rates a)
         ∙ ap (λ r. cond r due.cents (pos 0)) (record_is (peak_of f) rates a at.0 at.1)

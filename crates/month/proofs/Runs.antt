@@ -1,5 +1,5 @@
 -- The laws of a month, by induction over its runs.
-use Rattle.std.proofs.Common.{◌≡◌, ℕ, ◌≤◌, true, cond, ◌&&◌, leb, List, [], ◌∷◌, ◌++◌, length, take, pos, Some, None, Option, sym, refl, ap, ◌∙◌, subst, ap₂, arith}
+use Rattle.std.proofs.Common.{◌≡◌, ℕ, ◌≤◌, true, cond, ◌&&◌, leb, List, [], ◌∷◌, ◌++◌, length, take, pos, Some, None, Ok, Err, Option, Result, sym, refl, ap, ◌∙◌, subst, ap₂, arith}
 use mathlib.Core.Path.{fun_ext}
 use Rattle.std.proofs.lemmas.Bool.{and_from, and_parts, le-leb, false≢true}
 use Rattle.std.proofs.lemmas.List.{append-nil}
@@ -28,8 +28,7 @@ use Rattle.dues.specs.Facts.{last_day}
 use Rattle.dues.specs.Dues.{has_charge, peak_of, determinant_of, due_of}
 use Rattle.month.specs.declared.calls.Call.{Call}
 use Rattle.month.specs.declared.calls.Call.TheVariants.{Post, Customer, Transmitter, Service, Rates, Issue}
-use Rattle.month.specs.declared.calls.Outcome.{Outcome}
-use Rattle.month.specs.declared.calls.Outcome.TheVariants.{Pending, Accepted, Refused}
+use Rattle.tariff.specs.declared.refusal.Refusal.{Refusal}
 use Rattle.month.specs.declared.calls.JournalEntry.{JournalEntry}
 use Rattle.month.specs.States.{Setup, State}
 use Rattle.month.specs.Answers.{is_accepted, next}
@@ -104,15 +103,15 @@ part_answered (d ∷ done) rest (x ∷ j) s e =
     ap₂ (λ y ys. y ∷ ys) (ap (filled s) (sym call) ∙ first) (part_answered done rest j (next s d.call) others)
 
 -- a journal that ends in an accepted issue: the issue met the book of the journal
-issue_notes_nothing : (b : Book) (c : Call) (o : Outcome) → (is_issue c && is_accepted o) ≡ true → noted b (record { call = c; outcome = o }) ≡ b
+issue_notes_nothing : (b : Book) (c : Call) (o : Option (Result ℕ Refusal)) → (is_issue c && is_accepted o) ≡ true → noted b (record { call = c; outcome = o }) ≡ b
 issue_notes_nothing b (Post x) o e = absurd (false≢true e)
 issue_notes_nothing b (Customer p d k) o e = absurd (false≢true e)
 issue_notes_nothing b (Transmitter p d k) o e = absurd (false≢true e)
 issue_notes_nothing b (Service p d x) o e = absurd (false≢true e)
 issue_notes_nothing b (Rates d x) o e = absurd (false≢true e)
-issue_notes_nothing b (Issue st) Pending e = refl
-issue_notes_nothing b (Issue st) (Accepted n) e = refl
-issue_notes_nothing b (Issue st) (Refused r) e = refl
+issue_notes_nothing b (Issue st) None e = refl
+issue_notes_nothing b (Issue st) (Some (Ok n)) e = refl
+issue_notes_nothing b (Issue st) (Some (Err r)) e = refl
 
 met_at_end : (j : List JournalEntry) (b : Book) (met : Option Book) → ends_in_issue j ≡ true → met_from b met j ≡ Some (book_from b j)
 met_at_end [] b met e = absurd (false≢true e)

@@ -1,7 +1,7 @@
 -- A run, one call on.
-use Rattle.std.proofs.Common.{◌≡◌, ℕ, suc, ◌+◌, ◌<◌, ◌≤◌, List, [], ◌∷◌, ◌++◌, length, get_or, take, drop, set, sym, refl, ap, ◌∙◌, ap₂, arith}
+use Rattle.std.proofs.Common.{◌≡◌, ℕ, suc, ◌+◌, ◌<◌, ◌≤◌, List, [], ◌∷◌, ◌++◌, length, get_or, take, drop, set, Some, Result, sym, refl, ap, ◌∙◌, ap₂, arith}
 use Rattle.std.proofs.lemmas.List.{length-take-le, take_more, take_all, drop_more, drop_all, set_at, get_or_at, append_assoc, append-nil}
-use Rattle.month.specs.declared.calls.Outcome.{Outcome}
+use Rattle.tariff.specs.declared.refusal.Refusal.{Refusal}
 use Rattle.month.specs.declared.calls.JournalEntry.{JournalEntry}
 use Rattle.month.specs.States.{State}
 use Rattle.month.specs.Answers.{next, answer}
@@ -20,7 +20,7 @@ length_answered : (s : State) (es : List JournalEntry) → length (answered s es
 length_answered s [] = refl
 length_answered s (x ∷ es) = ap suc (length_answered (next s x.call) es)
 
-module _ (s s₁ s₂ : State) (j js : List JournalEntry) (i : ℕ) (d₀ : JournalEntry) (r : Outcome)
+module _ (s s₁ s₂ : State) (j js : List JournalEntry) (i : ℕ) (d₀ : JournalEntry) (r : Result ℕ Refusal)
     (inside : i < length j) (state : s₁ ≡ after s (take i j)) (done : js ≡ answered s (take i j) ++ drop i j)
     (says : r ≡ answer s₁ (get_or js i d₀).call) (leaves : s₂ ≡ next s₁ (get_or js i d₀).call) where
   split : js ≡ answered s (take i j) ++ get_or j i d₀ ∷ drop (i + 1) j
@@ -32,13 +32,13 @@ module _ (s s₁ s₂ : State) (j js : List JournalEntry) (i : ℕ) (d₀ : Jour
   read : get_or js i d₀ ≡ get_or j i d₀
   read = ap (λ ys. get_or ys i d₀) split ∙ get_or_at (answered s (take i j)) (get_or j i d₀) (drop (i + 1) j) d₀ i so_far
 
-  pub run_more : (s₂ ≡ after s (take (i + 1) j)) × (set js i (record { call = (get_or js i d₀).call; outcome = r }) ≡ answered s (take (i + 1) j) ++ drop (i + 1) j)
+  pub run_more : (s₂ ≡ after s (take (i + 1) j)) × (set js i (record { call = (get_or js i d₀).call; outcome = Some r }) ≡ answered s (take (i + 1) j) ++ drop (i + 1) j)
   run_more =
       let e = get_or j i d₀ in
       let so = answered s (take i j) in
       let rest = drop (i + 1) j in
-      let filled_in : record { call = (get_or js i d₀).call; outcome = r } ≡ filled (after s (take i j)) e.call =
-      ap (λ o. record { call = (get_or js i d₀).call; outcome = o }) says
+      let filled_in : record { call = (get_or js i d₀).call; outcome = Some r } ≡ filled (after s (take i j)) e.call =
+      ap (λ o. record { call = (get_or js i d₀).call; outcome = Some o }) says
       ∙ ap (λ x. filled s₁ x.call) read
       ∙ ap (λ t. filled t e.call) state in (
         leaves ∙ ap₂ next state (ap (λ x. x.call) read) ∙ sym (after_push s (take i j) e) ∙ ap (after s) (sym (take_more j i d₀ inside)),

@@ -1,5 +1,6 @@
 -- What each call of an open month answers, and what it leaves.
-use Rattle.std.specs.Prelude.{◌≡◌, ℕ, Bool, true, false, cond, ◌&&◌, List, length, Some, None, Ok, Err, Option, Result, ◌==◌, nat_le}
+use Rattle.std.specs.Prelude.{◌≡◌, ℕ, Bool, true, false, cond, ◌&&◌, List, length, is_ok, Some, None, Ok, Err, Option, Result, ◌==◌, nat_le}
+use Rattle.std.specs.Result.{result_map_both}
 use Rattle.tariff.specs.declared.parties.PartyNumber.{PartyNumber}
 use Rattle.tariff.specs.declared.parties.Rates.{Rates as RateRecord}
 use Rattle.tariff.specs.declared.parties.Service.{Service as ServiceRecord}
@@ -24,8 +25,6 @@ use Rattle.dues.specs.Records.{Records, sound_records}
 use Rattle.dues.specs.Dues.{dues_of, dues_answer}
 use Rattle.month.specs.declared.calls.Call.{Call}
 use Rattle.month.specs.declared.calls.Call.TheVariants.{Post, Customer, Transmitter, Service, Rates, Issue}
-use Rattle.month.specs.declared.calls.Outcome.{Outcome}
-use Rattle.month.specs.declared.calls.Outcome.TheVariants.{Pending, Accepted, Refused}
 use Rattle.month.specs.declared.month.OpenMonth.{OpenMonth}
 use Rattle.month.specs.States.{State, state_of, facts_at}
 
@@ -82,26 +81,23 @@ issue_of g st (Err e) = Err e
 abbrev pub issue_answer : State → Statement → Result ℕ Refusal
 issue_answer s st = issue_of s.ledger st (dues_to_issue s st)
 
-abbrev pub plain : Result (Unit {0}) Refusal → Outcome
-plain (Ok x) = Accepted 0
-plain (Err e) = Refused e
+-- a call that writes no line
+abbrev pub plain : Result (Unit {0}) Refusal → Result ℕ Refusal
+plain r = result_map_both (λ x. 0) (λ e. e) r
 
-abbrev pub counted : Result ℕ Refusal → Outcome
-counted (Ok n) = Accepted n
-counted (Err e) = Refused e
-
-abbrev pub answer : State → Call → Outcome
+-- how many lines a call writes
+abbrev pub answer : State → Call → Result ℕ Refusal
 answer s (Post x) = plain (post_answer s x)
 answer s (Customer p d k) = plain (party_answer s.setup.kinds s.records.customers p d k)
 answer s (Transmitter p d k) = plain (party_answer s.setup.kinds s.records.transmitters p d k)
 answer s (Service p d x) = plain (service_answer s.setup.kinds s.records.service p d x)
 answer s (Rates d x) = plain (rates_answer s.records.rates d x)
-answer s (Issue st) = counted (issue_answer s st)
+answer s (Issue st) = issue_answer s st
 
-abbrev pub is_accepted : Outcome → Bool
-is_accepted Pending = false
-is_accepted (Accepted n) = true
-is_accepted (Refused e) = false
+-- what a journal notes of a call: nothing as long as it is not taken
+abbrev pub is_accepted : Option (Result ℕ Refusal) → Bool
+is_accepted None = false
+is_accepted (Some r) = is_ok r
 
 -- ---- what is left
 
@@ -140,9 +136,9 @@ taken s (Issue st) = record {
 
 -- a refused call leaves all as it was
 abbrev pub next : State → Call → State
-next s c = cond (is_accepted (answer s c)) (taken s c) s
+next s c = cond (is_ok (answer s c)) (taken s c) s
 
 -- what a call of an open month answers, and leaves
-pub record Takes {S H : Type 0} (meaning : S → Meaning) (admits : H → ℕ → ℕ → Bool) (before : OpenMonth S H) (call : Call) (outcome : Outcome) (left : OpenMonth S H) : Type 0 where
+pub record Takes {S H : Type 0} (meaning : S → Meaning) (admits : H → ℕ → ℕ → Bool) (before : OpenMonth S H) (call : Call) (outcome : Result ℕ Refusal) (left : OpenMonth S H) : Type 0 where
   pub answers : outcome ≡ answer (state_of meaning admits before) call
   pub leaves : state_of meaning admits left ≡ next (state_of meaning admits before) call

@@ -6,11 +6,11 @@ use Rattle.tariff.specs.Points.{kinds_of}
 use Rattle.tariff.specs.Shelves.{Shelf}
 use Rattle.calendar.specs.Calendars.{length_in, first_in}
 use Rattle.readings.specs.Meaning.{Meaning}
-use Rattle.records.specs.Histories.{shelf_of as history_shelf}
 use Rattle.ledger.specs.declared.line.Line.{Line}
 use Rattle.ledger.specs.Ledgers.{shelf_of as ledger_shelf}
 use Rattle.dues.specs.Records.{Records}
 use Rattle.dues.specs.Facts.{Facts, facts_by}
+use Rattle.dues.specs.Workings.{records_of}
 use Rattle.month.specs.declared.setup.MonthSetup.{MonthSetup}
 use Rattle.month.specs.declared.month.OpenMonth.{OpenMonth}
 
@@ -38,12 +38,7 @@ abbrev pub state_of : {S H : Type 0} → (S → Meaning) → (H → ℕ → ℕ 
 state_of meaning admits m = record {
   setup = setup_of m.setup (admits m.peak_period);
   store = meaning m.store;
-  records = record {
-    customers = history_shelf m.customers;
-    transmitters = history_shelf m.transmitters;
-    service = history_shelf m.service;
-    rates = history_shelf m.rates;
-  };
+  records = records_of m.histories;
   ledger = ledger_shelf m.ledger;
   last = m.last;
 }

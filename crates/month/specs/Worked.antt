@@ -1,10 +1,11 @@
 -- A worked month of one network point and one day, and another run of it.
-use Rattle.std.specs.Prelude.{◌≡◌, ℕ, true, List, [], ◌∷◌, map, take, replicate, pos}
+use Rattle.std.specs.Prelude.{◌≡◌, ℕ, true, List, [], ◌∷◌, map, take, replicate, pos, Some, None, Ok, Option, Result}
 use Rattle.tariff.specs.declared.charge.Charge.TheVariants.{Network}
 use Rattle.tariff.specs.declared.parties.PartyNumber.{PartyNumber}
 use Rattle.tariff.specs.declared.points.PointKind.TheVariants as kind
 use Rattle.tariff.specs.declared.reading.Reading.TheVariants.{Withdrawal}
 use Rattle.tariff.specs.declared.reading.Sheet.{Sheet}
+use Rattle.tariff.specs.declared.refusal.Refusal.{Refusal}
 use Rattle.tariff.specs.declared.statement.Statement.TheVariants.{P, F, R1}
 use Rattle.tariff.specs.Shelves.{Shelf}
 use Rattle.readings.specs.Meaning.{no_sheets}
@@ -18,8 +19,6 @@ use Rattle.dues.specs.Records.{sound_records}
 use Rattle.month.specs.declared.calls.Call.{Call}
 use Rattle.month.specs.declared.calls.Call.TheVariants.{Post, Customer, Transmitter, Rates, Issue}
 use Rattle.month.specs.declared.calls.JournalEntry.{JournalEntry}
-use Rattle.month.specs.declared.calls.Outcome.{Outcome}
-use Rattle.month.specs.declared.calls.Outcome.TheVariants.{Pending, Accepted}
 use Rattle.month.specs.States.{State, opened}
 use Rattle.month.specs.Journals.{after, answered}
 use Rattle.month.specs.Laws.{Bare, Alike, SameMet, ends_in_issue, last_met, lines_after}
@@ -53,7 +52,7 @@ month_with places =
 
 abbrev noted_down : List Call → List JournalEntry
 noted_down [] = []
-noted_down (c ∷ cs) = record { call = c; outcome = Pending } ∷ noted_down cs
+noted_down (c ∷ cs) = record { call = c; outcome = None } ∷ noted_down cs
 
 abbrev pub start : State
 start = month_with 4
@@ -89,13 +88,13 @@ theirs = noted_down (
 abbrev account : ℕ → Account
 account customer = record { point = 1; charge = Network; customer = party customer; transmitter = party 7 }
 
-abbrev outcomes : List JournalEntry → List Outcome
+abbrev outcomes : List JournalEntry → List (Option (Result ℕ Refusal))
 outcomes j = map (λ e. e.outcome) j
 
 pub record Worked : Type 0 where
   pub bare : Bare start
   -- P writes one line, F takes it back and charges the new owner, R1 adds what the revised sheet makes more
-  pub takes : outcomes (answered start journal) ≡ Accepted 0 ∷ Accepted 0 ∷ Accepted 0 ∷ Accepted 0 ∷ Accepted 1 ∷ Accepted 0 ∷ Accepted 2 ∷ Accepted 0 ∷ Accepted 1 ∷ []
+  pub takes : outcomes (answered start journal) ≡ map (λ n. Some (Ok n)) (0 ∷ 0 ∷ 0 ∷ 0 ∷ 1 ∷ 0 ∷ 2 ∷ 0 ∷ 1 ∷ [])
   pub first_issue : ends_in_issue (take 5 (answered start journal)) ≡ true
   pub second_issue : ends_in_issue (take 7 (answered start journal)) ≡ true
   pub third_issue : ends_in_issue (answered start journal) ≡ true

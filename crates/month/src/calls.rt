@@ -4,6 +4,7 @@ use tariff::reading::Sheet;
 use tariff::refusal::Refusal;
 use tariff::statement::Statement;
 
+// The values are named as a caller says them: points, where a history has subjects; rates are of none.
 #[derive(Clone, Copy)]
 pub enum Call {
     Post(Sheet),
@@ -29,16 +30,9 @@ pub enum Call {
     Issue(Statement),
 }
 
-// An accepted issue tells how many lines it wrote; any other accepted call wrote none.
-#[derive(Clone, Copy)]
-pub enum Outcome {
-    Pending,
-    Accepted(usize),
-    Refused(Refusal),
-}
-
+// A call, and what it was answered, once it is taken: how many lines it wrote, which for any call but an issue is none.
 #[derive(Clone, Copy)]
 pub struct JournalEntry {
     pub call: Call,
-    pub outcome: Outcome,
+    pub outcome: Option<Result<usize, Refusal>>,
 }

@@ -3,11 +3,10 @@ ghost use Rattle.std.specs.Prelude.{◌≡◌, None};
 
 use crate::closed::ClosedMonth;
 use crate::setup::MonthSetup;
+use dues::histories::Histories;
 use hours::rules::HourRule;
 use ledger::ledger::Ledger;
 use readings::readings::SheetStore;
-use records::history::History;
-use tariff::parties::{PartyNumber, Rates, Service};
 use tariff::statement::Statement;
 
 mod questions;
@@ -15,15 +14,14 @@ mod running;
 mod taking;
 
 // Store, histories and ledger are the caller's, with any contents; any hour rule may stand for the peak period.
+// Clauses read an open month by `state_of`: a month as a value holds functions (its sheets by point and day, the hours of its
+// peak period), and the value by which clauses see a type of its own (`Model`) has to be plain data.
 #[derive(Drop)]
 pub struct OpenMonth<'a, S: SheetStore, H: HourRule> {
     setup: MonthSetup,
     store: S,
     peak_period: H,
-    customers: History<'a, PartyNumber>,
-    transmitters: History<'a, PartyNumber>,
-    service: History<'a, Service>,
-    rates: History<'a, Rates>,
+    histories: Histories<'a>,
     ledger: Ledger<'a>,
     last: Option<Statement>,
 }
@@ -33,22 +31,16 @@ impl<'a, S: SheetStore, H: HourRule> OpenMonth<'a, S, H> {
         setup: MonthSetup,
         store: S,
         peak_period: H,
-        customers: History<'a, PartyNumber>,
-        transmitters: History<'a, PartyNumber>,
-        service: History<'a, Service>,
-        rates: History<'a, Rates>,
+        histories: Histories<'a>,
         ledger: Ledger<'a>,
     ) -> OpenMonth<'a, S, H>
-        ensures { result ≡ record { setup = setup; store = store; peak_period = peak_period; customers = customers.entry; transmitters = transmitters.entry; service = service.entry; rates = rates.entry; ledger = ledger.entry; last = None } }
+        ensures { result ≡ record { setup = setup; store = store; peak_period = peak_period; histories = histories.entry; ledger = ledger.entry; last = None } }
     {
         OpenMonth {
             setup,
             store,
             peak_period,
-            customers,
-            transmitters,
-            service,
-            rates,
+            histories,
             ledger,
             last: None,
         }

@@ -13,6 +13,7 @@ ghost use Rattle.month.specs.States.{state_of};
 
 use super::OpenMonth;
 use demand::determinants::system_peak;
+use demand::search::Peak;
 use dues::histories::RATES_SUBJECT;
 use hours::rules::HourRule;
 use ledger::line::{Account, Line};
@@ -74,34 +75,34 @@ impl<'a, S: SheetStore, H: HourRule> OpenMonth<'a, S, H> {
     }
 
     // The system peak of the sheets so far: quantity, day and hour. An hour without a sheet counts as no demand.
-    pub fn peak(&self) -> (u64, u32, u32)
+    pub fn peak(&self) -> Peak
         ensures { result ≡ system_peak_of (state_of S.Readings.meaning H.HourRule.admits self.now).setup.kinds (state_of S.Readings.meaning H.HourRule.admits self.now).setup.days (state_of S.Readings.meaning H.HourRule.admits self.now).store.sheets }
     {
         system_peak(&self.setup.points, &self.setup.calendar, &self.store)
     }
 
-    // A point's customer on a day number, if one is on record.
+    // A point's customer on a day number, if one is on record. As with the entries, each history has a call of its own.
     pub fn customer(&self, point: u32, day_number: u32) -> Option<PartyNumber>
         ensures { result ≡ latest (items (state_of S.Readings.meaning H.HourRule.admits self.now).records.customers) point day_number }
     {
-        self.customers.on_record(point, day_number)
+        self.histories.customers.on_record(point, day_number)
     }
 
     pub fn transmitter(&self, point: u32, day_number: u32) -> Option<PartyNumber>
         ensures { result ≡ latest (items (state_of S.Readings.meaning H.HourRule.admits self.now).records.transmitters) point day_number }
     {
-        self.transmitters.on_record(point, day_number)
+        self.histories.transmitters.on_record(point, day_number)
     }
 
     pub fn service(&self, point: u32, day_number: u32) -> Option<Service>
         ensures { result ≡ latest (items (state_of S.Readings.meaning H.HourRule.admits self.now).records.service) point day_number }
     {
-        self.service.on_record(point, day_number)
+        self.histories.service.on_record(point, day_number)
     }
 
     pub fn rates(&self, day_number: u32) -> Option<Rates>
         ensures { result ≡ latest (items (state_of S.Readings.meaning H.HourRule.admits self.now).records.rates) 0 day_number }
     {
-        self.rates.on_record(RATES_SUBJECT, day_number)
+        self.histories.rates.on_record(RATES_SUBJECT, day_number)
     }
 }

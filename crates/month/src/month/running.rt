@@ -1,58 +1,40 @@
 // Runs of calls.
 ghost use Rattle.std.specs.Prelude.{◌≡◌};
 ghost use Rattle.month.specs.States.{state_of};
-ghost use Rattle.month.specs.Answers.{plain, counted, Takes};
+ghost use Rattle.month.specs.Answers.{Takes};
 ghost use Rattle.month.specs.Journals.{after, answered};
 ghost use Rattle.month.specs.Laws.{Bare, MonthLaws};
 
 use super::OpenMonth;
-use crate::calls::{Call, JournalEntry, Outcome};
+use crate::calls::{Call, JournalEntry};
 use hours::rules::HourRule;
 use readings::readings::SheetStore;
 use tariff::refusal::Refusal;
 
-fn plain_outcome(answer: Result<(), Refusal>) -> Outcome
-    ensures { result ≡ plain answer }
-{
-    match answer {
-        Ok(()) => Outcome::Accepted(0),
-        Err(refusal) => Outcome::Refused(refusal),
-    }
-}
-
-fn counted_outcome(answer: Result<usize, Refusal>) -> Outcome
-    ensures { result ≡ counted answer }
-{
-    match answer {
-        Ok(lines) => Outcome::Accepted(lines),
-        Err(refusal) => Outcome::Refused(refusal),
-    }
-}
-
 impl<'a, S: SheetStore, H: HourRule> OpenMonth<'a, S, H> {
-    // Takes any call.
-    pub fn take(&mut self, call: Call) -> Outcome
+    // Takes any call, and answers how many lines it wrote, which for any call but an issue is none.
+    pub fn take(&mut self, call: Call) -> Result<usize, Refusal>
         ensures { Takes S.Readings.meaning H.HourRule.admits self.old call result self.new }
     {
         match call {
-            Call::Post(sheet) => plain_outcome(self.post(sheet)),
+            Call::Post(sheet) => self.post(sheet).map(|()| 0),
             Call::Customer {
                 point,
                 from_day,
                 party,
-            } => plain_outcome(self.enter_customer(point, from_day, party)),
+            } => self.enter_customer(point, from_day, party).map(|()| 0),
             Call::Transmitter {
                 point,
                 from_day,
                 party,
-            } => plain_outcome(self.enter_transmitter(point, from_day, party)),
+            } => self.enter_transmitter(point, from_day, party).map(|()| 0),
             Call::Service {
                 point,
                 from_day,
                 service,
-            } => plain_outcome(self.enter_service(point, from_day, service)),
-            Call::Rates { from_day, rates } => plain_outcome(self.enter_rates(from_day, rates)),
-            Call::Issue(statement) => counted_outcome(self.issue(statement)),
+            } => self.enter_service(point, from_day, service).map(|()| 0),
+            Call::Rates { from_day, rates } => self.enter_rates(from_day, rates).map(|()| 0),
+            Call::Issue(statement) => self.issue(statement),
         }
     }
 
@@ -64,7 +46,7 @@ impl<'a, S: SheetStore, H: HourRule> OpenMonth<'a, S, H> {
         ensures laws { Bare (state_of S.Readings.meaning H.HourRule.admits self.old) → MonthLaws (state_of S.Readings.meaning H.HourRule.admits self.old) journal.new }
     {
         for noted in journal.iter_mut() {
-            noted.outcome = self.take(noted.call);
+            noted.outcome = Some(self.take(noted.call));
         }
     }
 }

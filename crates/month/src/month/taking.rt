@@ -3,12 +3,11 @@ ghost use Rattle.std.specs.Prelude.{◌≡◌};
 ghost use Rattle.std.specs.Result.{result_map_both};
 ghost use Rattle.dues.specs.Lists.{facts_in};
 ghost use Rattle.month.specs.States.{state_of};
-ghost use Rattle.month.specs.Answers.{store_fits, dues_to_issue, plain, counted, Takes};
+ghost use Rattle.month.specs.Answers.{store_fits, dues_to_issue, plain, Takes};
 
 use super::OpenMonth;
 use crate::calls::Call;
 use crate::entries::{enter_party, enter_rates, enter_service};
-use dues::histories::Histories;
 use dues::list::DueList;
 use dues::workings::Workings;
 use hours::rules::HourRule;
@@ -38,7 +37,8 @@ impl<'a, S: SheetStore, H: HourRule> OpenMonth<'a, S, H> {
         self.store.post(sheet)
     }
 
-    // Enters a point's customer from a day number on.
+    // Enters a point's customer from a day number on. Customers and transmitters are entered alike, by `enter_party`, and
+    // the call's name says in which history: a mark beside one call would say no more.
     pub fn enter_customer(
         &mut self,
         point: u32,
@@ -49,7 +49,7 @@ impl<'a, S: SheetStore, H: HourRule> OpenMonth<'a, S, H> {
     {
         enter_party(
             &self.setup.points,
-            &mut self.customers,
+            &mut self.histories.customers,
             point,
             from_day,
             party,
@@ -66,7 +66,7 @@ impl<'a, S: SheetStore, H: HourRule> OpenMonth<'a, S, H> {
     {
         enter_party(
             &self.setup.points,
-            &mut self.transmitters,
+            &mut self.histories.transmitters,
             point,
             from_day,
             party,
@@ -84,7 +84,7 @@ impl<'a, S: SheetStore, H: HourRule> OpenMonth<'a, S, H> {
     {
         enter_service(
             &self.setup.points,
-            &mut self.service,
+            &mut self.histories.service,
             point,
             from_day,
             service,
@@ -95,11 +95,12 @@ impl<'a, S: SheetStore, H: HourRule> OpenMonth<'a, S, H> {
     pub fn enter_rates(&mut self, from_day: u32, rates: Rates) -> Result<(), Refusal>
         ensures { Takes S.Readings.meaning H.HourRule.admits self.old (Call.Rates from_day rates) (plain result) self.new }
     {
-        enter_rates(&mut self.rates, from_day, rates)
+        enter_rates(&mut self.histories.rates, from_day, rates)
     }
 
     // What is due, if a statement may be issued now: one that is in turn, of a store that fits, over a sound ledger and
     // sound histories, with no sheet missing and all on record.
+    #[tactic(auto, using(crate::proofs::Issues::ledger_refused, crate::proofs::Issues::dues_reached))]
     fn dues_to_issue(&self, statement: Statement) -> Result<DueList, Refusal>
         ensures { result_map_both facts_in (λ e. e) result ≡ dues_to_issue (state_of S.Readings.meaning H.HourRule.admits self.now) statement }
     {
@@ -115,19 +116,14 @@ impl<'a, S: SheetStore, H: HourRule> OpenMonth<'a, S, H> {
             calendar: &self.setup.calendar,
             readings: &self.store,
             peak_period: &self.peak_period,
-            histories: Histories {
-                customers: &self.customers,
-                transmitters: &self.transmitters,
-                service: &self.service,
-                rates: &self.rates,
-            },
+            histories: &self.histories,
         };
         workings.work_out()
     }
 
     // Issues a statement of what is due, and answers how many lines it wrote.
     pub fn issue(&mut self, statement: Statement) -> Result<usize, Refusal>
-        ensures { Takes S.Readings.meaning H.HourRule.admits self.old (Call.Issue statement) (counted result) self.new }
+        ensures { Takes S.Readings.meaning H.HourRule.admits self.old (Call.Issue statement) result self.new }
     {
         let dues = self.dues_to_issue(statement)?;
         let count = self.ledger.issue(statement, dues.as_slice())?;
