@@ -4,7 +4,6 @@ ghost use Rattle.std.specs.Result.{result_map_both};
 ghost use Rattle.tariff.specs.Points.{kinds_of};
 ghost use Rattle.desk.specs.Arguments.{unless_hyphen, days_asked, points_asked, calendar_asked, month_asked, numbers_in, month_in};
 
-use crate::words::Words;
 use calendar::month::Calendar;
 use job::days::days_of;
 use job::numbers::whole;
@@ -55,12 +54,9 @@ fn marked_days(text: &[u8]) -> Option<u32>
 fn points_of(text: &[u8]) -> Result<PointList, BadArgument>
     ensures { result_map_both kinds_of (λ e. e) result ≡ points_asked text.now }
 {
-    if let [b'-'] = text {
-        return Ok(PointList::new());
-    }
-    match point_list(text) {
-        Ok(points) => Ok(points),
-        Err(fault) => Err(BadArgument::Point(fault)),
+    match text {
+        [b'-'] => Ok(PointList::new()),
+        _ => point_list(text).map_err(BadArgument::Point),
     }
 }
 
@@ -72,22 +68,11 @@ fn calendar_of(
 ) -> Result<Calendar, BadArgument>
     ensures { result_map_both numbers_in (λ e. e) result ≡ calendar_asked year.now month.now holidays.now summer.now }
 {
-    let Some(year) = whole(year) else {
-        return Err(BadArgument::Year);
-    };
-    let Some(month) = whole(month) else {
-        return Err(BadArgument::Month);
-    };
-    let Some(holiday_mask) = marked_days(holidays) else {
-        return Err(BadArgument::Holidays);
-    };
-    let Some(summer_mask) = marked_days(summer) else {
-        return Err(BadArgument::Summer);
-    };
-    match Calendar::new(year, month, holiday_mask, summer_mask) {
-        Ok(calendar) => Ok(calendar),
-        Err(refusal) => Err(BadArgument::Calendar(refusal)),
-    }
+    let year = whole(year).ok_or(BadArgument::Year)?;
+    let month = whole(month).ok_or(BadArgument::Month)?;
+    let holiday_mask = marked_days(holidays).ok_or(BadArgument::Holidays)?;
+    let summer_mask = marked_days(summer).ok_or(BadArgument::Summer)?;
+    Calendar::new(year, month, holiday_mask, summer_mask).map_err(BadArgument::Calendar)
 }
 
 // The month that the arguments make: days as 1,5,22-24, points as N,N,CLT, or a hyphen for none of either.
@@ -100,14 +85,9 @@ pub fn month_asked_for(
 ) -> Result<Asked, BadArgument>
     ensures { result_map_both month_in (λ e. e) result ≡ month_asked year.now month.now holidays.now summer.now points.now }
 {
-    let calendar = match calendar_of(year, month, holidays, summer) {
-        Ok(calendar) => calendar,
-        Err(fault) => return Err(fault),
-    };
-    match points_of(points) {
-        Ok(points) => Ok(Asked { calendar, points }),
-        Err(fault) => Err(fault),
-    }
+    let calendar = calendar_of(year, month, holidays, summer)?;
+    let points = points_of(points)?;
+    Ok(Asked { calendar, points })
 }
 
 impl fmt::Display for BadArgument {
@@ -119,14 +99,16 @@ impl fmt::Display for BadArgument {
             BadArgument::Summer => f.write_str("SUMMER: not days as 1,5,22-24 or -"),
             BadArgument::Calendar(refusal) => {
                 let number = refusal.number();
-                let words = Words(refusal);
-                write!(f, "refused {number}: {words}")
+                write!(f, "refused {number}: {refusal}")
             }
-            BadArgument::Point(fault) => {
-                let point = fault.number;
-                let number = fault.refusal.number();
-                let words = Words(fault.refusal);
-                write!(f, "POINTS: point {point}: refused {number}: {words}")
+            BadArgument::Point(
+                PointFault {
+                    number: point,
+                    refusal,
+                },
+            ) => {
+                let number = refusal.number();
+                write!(f, "POINTS: point {point}: refused {number}: {refusal}")
             }
         }
     }

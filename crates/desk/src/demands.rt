@@ -8,6 +8,7 @@ use crate::arguments::{Asked, month_asked_for};
 use crate::posting::post_file;
 use crate::words::tell;
 use demand::determinants::{connection_demand, network_demand, system_peak};
+use demand::search::Peak;
 use hours::rules::{PeakPeriod, WholeMonth};
 use readings::questions::first_missing;
 use readings::readings::{Readings, SheetStore};
@@ -17,69 +18,67 @@ use stores::full_table::FullTable;
 use tariff::charge::Charge;
 use tariff::points::PointKind;
 
-// One line for a network point: charge, determinant, day and hour, and C and Q.
-fn print_network<R: Readings, W: Write>(
-    out: &mut W,
-    month: &Asked,
-    readings: &R,
-    system: (u64, u32, u32),
-    point: u32,
-) -> io::Result<()> {
-    let peak_period = PeakPeriod {
-        calendar: &month.calendar,
-    };
-    let days = month.calendar.days();
-    let demand = network_demand(readings, &peak_period, days, system, point);
-    let charge = Charge::Network.number();
-    let (determinant, day, hour) = demand.determinant;
-    let coincident = demand.coincident;
-    let own = demand.own.0;
-    writeln!(
-        out,
-        "{point}|{charge}|{determinant}|{day}|{hour}|{coincident}|{own}"
-    )
+// A month and the readings that its demands are taken from.
+#[derive(Drop)]
+struct Demands<'a, R> {
+    month: &'a Asked,
+    readings: &'a R,
 }
 
-// A line for each connection charge of a point, which is in service all month.
-fn print_connection<R: Readings, W: Write>(
-    out: &mut W,
-    month: &Asked,
-    readings: &R,
-    kind: PointKind,
-    point: u32,
-) -> io::Result<()> {
-    let service = WholeMonth {
-        calendar: &month.calendar,
-    };
-    let days = month.calendar.days();
-    let (determinant, day, hour) = connection_demand(readings, &service, days, point);
-    for charge in [Charge::Line, Charge::Transformation] {
-        if kind.has(charge) {
-            let number = charge.number();
-            writeln!(out, "{point}|{number}|{determinant}|{day}|{hour}")?;
-        }
+impl<'a, R: Readings> Demands<'a, R> {
+    // One line for a network point: charge, determinant, day and hour, and C and Q.
+    fn print_network<W: Write>(&self, out: &mut W, system: Peak, point: u32) -> io::Result<()> {
+        let calendar = &self.month.calendar;
+        let peak_period = PeakPeriod { calendar };
+        let demand = network_demand(self.readings, &peak_period, calendar.days(), system, point);
+        let charge = Charge::Network.number();
+        let (determinant, day, hour) = demand.determinant;
+        let coincident = demand.coincident;
+        let own = demand.own.0;
+        writeln!(
+            out,
+            "{point}|{charge}|{determinant}|{day}|{hour}|{coincident}|{own}"
+        )
     }
-    Ok(())
-}
 
-fn print_demands<R: Readings, W: Write>(
-    out: &mut W,
-    month: &Asked,
-    readings: &R,
-) -> io::Result<()> {
-    let system = system_peak(&month.points, &month.calendar, readings);
-    let (quantity, day, hour) = system;
-    writeln!(out, "peak|{quantity}|{day}|{hour}")?;
-    for k in 0..month.points.count() {
-        match month.points.kind(k + 1) {
-            Some(kind) if kind.is_network() => {
-                print_network(out, month, readings, system, k + 1)?
+    // A line for each connection charge of a point, which is in service all month.
+    fn print_connection<W: Write>(
+        &self,
+        out: &mut W,
+        kind: PointKind,
+        point: u32,
+    ) -> io::Result<()> {
+        let calendar = &self.month.calendar;
+        let service = WholeMonth { calendar };
+        let (determinant, day, hour) = connection_demand(
+            self.readings,
+            &service,
+            calendar.days(),
+            point,
+        );
+        for charge in [Charge::Line, Charge::Transformation] {
+            if kind.has(charge) {
+                let number = charge.number();
+                writeln!(out, "{point}|{number}|{determinant}|{day}|{hour}")?;
             }
-            Some(kind) => print_connection(out, month, readings, kind, k + 1)?,
-            None => {}
         }
+        Ok(())
     }
-    Ok(())
+
+    fn print<W: Write>(&self, out: &mut W) -> io::Result<()> {
+        let Asked { calendar, points } = self.month;
+        let system = system_peak(points, calendar, self.readings);
+        let (quantity, day, hour) = system;
+        writeln!(out, "peak|{quantity}|{day}|{hour}")?;
+        for point in 1..=points.count() {
+            match points.kind(point) {
+                Some(kind) if kind.is_network() => self.print_network(out, system, point)?,
+                Some(kind) => self.print_connection(out, kind, point)?,
+                None => {}
+            }
+        }
+        Ok(())
+    }
 }
 
 // Posts a file of sheets to a store, tells of each line that is refused, and prints the demands if no sheet is missing;
@@ -102,7 +101,11 @@ pub fn answer<S: SheetStore, W: Write, E: Write>(
         tell(faults, refusal)?;
         return Ok(false);
     }
-    print_demands(out, month, store)?;
+    let demands = Demands {
+        month,
+        readings: store,
+    };
+    demands.print(out)?;
     Ok(true)
 }
 
@@ -123,10 +126,7 @@ fn explain<W: Write, E: Write>(
     out: &mut W,
     faults: &mut E,
 ) -> anyhow::Result<bool> {
-    let asked = match args {
-        [word] => word.as_str() == "--help",
-        _ => false,
-    };
+    let asked = matches!(args, [word] if word.as_str() == "--help");
     if asked {
         out.write_all(USAGE.as_bytes())?;
     } else {

@@ -28,9 +28,9 @@ fn post_outcome<S: SheetStore>(
 pub fn post_file<S: SheetStore, W: Write>(store: &mut S, file: &[u8], faults: &mut W)
     ensures { S.Readings.meaning store.new ≡ posted_all (S.Readings.meaning store.old) (outcomes 0 (lines file.now)) }
 {
+    // Zipped with the numbers from 1, the file would seem to end where the numbers do.
     let mut line: u64 = 0;
-    let mut reader = SheetReader::new(file);
-    while let Some(outcome) = reader.next_sheet() {
+    for outcome in SheetReader::new(file) {
         line = line.saturating_add(1);
         if let Err(refusal) = post_outcome(store, outcome) {
             let _ = write!(faults, "demands: line {line}: ");

@@ -1,9 +1,10 @@
 // The worked month of May 2023: its set-up and its calls.
 use calendar::month::Calendar;
-use month::calls::{Call, JournalEntry, Outcome};
+use month::calls::{Call, JournalEntry};
 use month::setup::MonthSetup;
 use std::alloc::{AllocError, Global};
 use tariff::parties::{PartyNumber, Rates, Service};
+use tariff::points::Declaration;
 use tariff::reading::{Reading, Sheet};
 use tariff::refusal::Refusal;
 use tariff::statement::Statement;
@@ -16,6 +17,19 @@ const LAST: u32 = 8_551;
 const NO_DAYS: u32 = 0;
 
 const ALL_DAYS: u32 = 0x7fff_ffff;
+
+const NETWORK: Declaration = Declaration {
+    letter: b'N',
+    line: false,
+    transformation: false,
+};
+
+// With both charges.
+const CONNECTION: Declaration = Declaration {
+    letter: b'C',
+    line: true,
+    transformation: true,
+};
 
 // A sheet with one quantity at all hours.
 fn level(point: u32, day: u32, quantity: u32) -> Sheet {
@@ -64,7 +78,7 @@ fn transmitter(point: u32, from_day: u32, number: u32) -> Call {
 fn note(journal: &mut Vec<JournalEntry>, call: Call) -> Result<(), AllocError> {
     journal.push(JournalEntry {
         call,
-        outcome: Outcome::Pending,
+        outcome: None,
     })?;
     Ok(())
 }
@@ -122,8 +136,8 @@ pub(crate) fn calendar() -> Result<Calendar, Refusal> {
 // Two network points and a connection point with both charges.
 pub(crate) fn set_up() -> Result<MonthSetup, Refusal> {
     let mut setup = MonthSetup::new(2023, 5, NO_DAYS, ALL_DAYS)?;
-    setup.declare_point(b'N', false, false)?;
-    setup.declare_point(b'N', false, false)?;
-    setup.declare_point(b'C', true, true)?;
+    for point in [NETWORK, NETWORK, CONNECTION] {
+        setup.declare_point(point)?;
+    }
     Ok(setup)
 }

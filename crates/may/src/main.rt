@@ -3,10 +3,11 @@
 
 mod journal;
 
+use dues::histories::Histories;
 use hours::rules::{HourRule, PeakPeriod};
 use ledger::ledger::Ledger;
 use ledger::line::Line;
-use month::calls::{JournalEntry, Outcome};
+use month::calls::JournalEntry;
 use month::setup::MonthSetup;
 use readings::readings::SheetStore;
 use records::dated::Dated;
@@ -14,55 +15,11 @@ use records::history::History;
 use std::io::Write;
 use std::process::ExitCode;
 use stores::full_table::FullTable;
-use tariff::charge::Charge;
-use tariff::parties::{PartyNumber, Rates, Service};
 use tariff::refusal::Refusal;
-use tariff::statement::Statement;
-
-const NOBODY: PartyNumber = PartyNumber { number: 0 };
-
-const NO_PARTY: Dated<PartyNumber> = Dated {
-    subject: 0,
-    from_day: 0,
-    item: NOBODY,
-};
-
-const NO_SERVICE: Dated<Service> = Dated {
-    subject: 0,
-    from_day: 0,
-    item: Service { in_service: false },
-};
-
-const NO_RATES: Dated<Rates> = Dated {
-    subject: 0,
-    from_day: 0,
-    item: Rates {
-        network: 0,
-        line: 0,
-        transformation: 0,
-    },
-};
-
-const BLANK: Line = Line {
-    statement: Statement::P,
-    point: 0,
-    charge: Charge::Network,
-    customer: NOBODY,
-    transmitter: NOBODY,
-    cents: 0,
-    quantity: 0,
-    day: 0,
-    hour: 0,
-};
 
 // The first call that was refused, if any was.
 fn first_refused(journal: &[JournalEntry]) -> Option<Refusal> {
-    for entry in journal {
-        if let Outcome::Refused(refusal) = entry.outcome {
-            return Some(refusal);
-        }
-    }
-    None
+    journal.iter().find_map(|entry| entry.outcome?.err())
 }
 
 // Runs the calls over a store and memory of its own, and writes the listing to `text`; how long it is.
@@ -73,20 +30,19 @@ fn settle<S: SheetStore + Drop, H: HourRule + Drop>(
     calls: &mut [JournalEntry],
     text: &mut [u8],
 ) -> Result<usize, Refusal> {
-    let mut customers = [NO_PARTY; 8];
-    let mut transmitters = [NO_PARTY; 8];
-    let mut service = [NO_SERVICE; 8];
-    let mut rates = [NO_RATES; 8];
-    let mut lines = [BLANK; 16];
-    let mut month = setup.open(
-        store,
-        peak_period,
-        History::over(&mut customers, 0),
-        History::over(&mut transmitters, 0),
-        History::over(&mut service, 0),
-        History::over(&mut rates, 0),
-        Ledger::over(&mut lines, 0),
-    );
+    let mut customers = [Dated::default(); 8];
+    let mut transmitters = [Dated::default(); 8];
+    let mut service = [Dated::default(); 8];
+    let mut rates = [Dated::default(); 8];
+    let mut lines = [Line::EMPTY; 16];
+    let histories = Histories {
+        customers: History::over(&mut customers, 0),
+        transmitters: History::over(&mut transmitters, 0),
+        service: History::over(&mut service, 0),
+        rates: History::over(&mut rates, 0),
+    };
+    let ledger = Ledger::over(&mut lines, 0);
+    let mut month = setup.open(store, peak_period, histories, ledger);
     month.run(calls);
     if let Some(refusal) = first_refused(calls) {
         return Err(refusal);
@@ -94,7 +50,8 @@ fn settle<S: SheetStore + Drop, H: HourRule + Drop>(
     month.close().questions().write_listing(text)
 }
 
-// The month over a full table.
+// The month over a full table. It is opened in a function for any store, since a month over a store of a type that is named
+// is not covered by the borrow checker.
 fn settle_may(
     calls: &mut [JournalEntry],
     words: &mut [u32],

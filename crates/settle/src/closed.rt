@@ -1,5 +1,5 @@
 // Questions: of an open month, and of a closed one, which takes nothing else.
-use crate::answers::{malformed, not_a_call, refuse, reply};
+use crate::answers::Teller;
 use clerk::answers::ask;
 use hours::rules::HourRule;
 use job::command::Command;
@@ -7,7 +7,6 @@ use job::lines::{JobLine, JobLines, is_call};
 use job::parse::parse;
 use month::month::OpenMonth;
 use readings::readings::SheetStore;
-use std::alloc::Global;
 use std::io;
 use std::io::Write;
 
@@ -16,57 +15,53 @@ const LONGEST: usize = 128;
 
 // Prints the ledger's listing as it is.
 pub(crate) fn list<S: SheetStore, H: HourRule, W: Write>(
-    heap: Global,
+    teller: &mut Teller<W>,
     month: &OpenMonth<S, H>,
     number: u64,
-    out: &mut W,
 ) -> io::Result<()> {
     let bytes = month
         .lines()
         .len()
         .saturating_add(1)
         .saturating_mul(LONGEST);
-    let mut text = vec![in heap; 0u8; bytes]?;
+    let mut text = vec![in teller.rt.alloc(); 0u8; bytes]?;
     match month.write_listing(text.as_mut_slice()) {
         Ok(length) => {
             text.truncate(length);
-            out.write_all(text.as_slice())
+            teller.out.write_all(text.as_slice())
         }
-        Err(refusal) => refuse(out, number, refusal),
+        Err(refusal) => teller.refuse(number, refusal),
     }
 }
 
 fn answer_line<S: SheetStore, H: HourRule, W: Write>(
-    heap: Global,
+    teller: &mut Teller<W>,
     month: &OpenMonth<S, H>,
     line: JobLine,
-    out: &mut W,
 ) -> io::Result<()> {
     let number = line.number;
     match parse(line.text) {
-        Ok(Command::Listing) => list(heap, month, number, out),
+        Ok(Command::Listing) => list(teller, month, number),
         Ok(command) => match ask(month, command) {
-            Some(answer) => reply(out, number, answer),
-            None => malformed(
-                out,
+            Some(answer) => teller.reply(number, answer),
+            None => teller.malformed(
                 number,
                 "the month is closed: it answers credit, total, peak and listing only",
             ),
         },
-        Err(fault) => not_a_call(out, number, fault),
+        Err(fault) => teller.malformed(number, fault),
     }
 }
 
 // Takes lines to the job's end.
 pub(crate) fn answer_questions<S: SheetStore, H: HourRule, W: Write>(
-    heap: Global,
+    teller: &mut Teller<W>,
     month: &OpenMonth<S, H>,
     lines: &mut JobLines,
-    out: &mut W,
 ) -> io::Result<()> {
-    while let Some(line) = lines.next_line() {
+    for line in lines.by_ref() {
         if is_call(line.text) {
-            answer_line(heap, month, line, out)?;
+            answer_line(teller, month, line)?;
         }
     }
     Ok(())

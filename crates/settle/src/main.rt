@@ -9,6 +9,7 @@ mod open;
 mod progress;
 mod set_up;
 
+use crate::answers::Teller;
 use crate::input::{Source, read_job};
 use crate::progress::Progress;
 use crate::set_up::await_month;
@@ -42,11 +43,12 @@ a job has one call on each line, values split by |; blank lines and lines that b
 // Works through a job from its month to its end.
 fn settle<W: Write>(rt: &HostRuntime, job: &[u8], out: &mut W) -> anyhow::Result<()> {
     let progress = Progress::of(rt, job);
+    let mut teller = Teller { rt, out, progress };
     let mut lines = JobLines::new(job);
-    if let Some(month) = await_month(&mut lines, out)? {
-        if let Some(opening) = set_up::set_up(rt.alloc(), month, &mut lines, out)? {
-            open::work(rt, opening, &progress, &mut lines, out)?;
-        }
+    if let Some(month) = await_month(&mut teller, &mut lines)?
+        && let Some(opening) = set_up::set_up(&mut teller, month, &mut lines)?
+    {
+        open::work(&mut teller, opening, &mut lines)?;
     }
     progress.end(rt)?;
     Ok(())

@@ -1,7 +1,7 @@
 // The memory that a month is lent.
 use job::command::{Places, StoreKind};
 use ledger::line::{Line, MAX_LINES};
-use records::dated::{Dated, NO_PARTY, NO_RATES, NO_SERVICE};
+use records::dated::Dated;
 use records::range::LAST_FROM_DAY;
 use std::alloc::{AllocError, Global};
 use stores::row_store::Row;
@@ -66,10 +66,10 @@ impl Memory {
     ) -> Result<Memory, AllocError> {
         let places = places.unwrap_or(USUAL);
         Ok(Memory {
-            customers: vec![in heap; NO_PARTY; entries(places.customers, points)]?,
-            transmitters: vec![in heap; NO_PARTY; entries(places.transmitters, points)]?,
-            service: vec![in heap; NO_SERVICE; entries(places.service, points)]?,
-            rates: vec![in heap; NO_RATES; entries(places.rates, 1)]?,
+            customers: vec![in heap; Dated::default(); entries(places.customers, points)]?,
+            transmitters: vec![in heap; Dated::default(); entries(places.transmitters, points)]?,
+            service: vec![in heap; Dated::default(); entries(places.service, points)]?,
+            rates: vec![in heap; Dated::default(); entries(places.rates, 1)]?,
             lines: vec![in heap; Line::EMPTY; (places.ledger as usize).min(MAX_LINES)]?,
         })
     }

@@ -1,12 +1,12 @@
 // The lines of an open month.
-use crate::answers::{accept, accept_number, malformed, not_a_call, refuse_sheet, reply};
+use crate::answers::Teller;
 use crate::closed::{answer_questions, list};
 use crate::input::read_sheets;
 use crate::memory::{Memory, SheetMemory};
-use crate::progress::Progress;
 use crate::set_up::Opening;
-use clerk::answers::{Answer, take};
+use clerk::answers::take;
 use clerk::posting::post_next;
+use dues::histories::Histories;
 use hours::rules::{HourRule, PeakPeriod};
 use job::command::Command;
 use job::lines::{JobLine, JobLines, is_call};
@@ -22,14 +22,13 @@ use std::io::Write;
 use stores::full_table::FullTable;
 use stores::row_store::RowStore;
 
-// Posts every sheet of a file and answers how many were posted, after each line that is refused.
+// Posts every sheet of a file and answers how many were posted, after each line that is refused. Each step is one call,
+// which takes a line from the file and posts it to the month, so that no `for` over the file alone stands for it.
 fn post_file<S: SheetStore, H: HourRule, W: Write>(
-    rt: &HostRuntime,
+    teller: &mut Teller<W>,
     month: &mut OpenMonth<S, H>,
     file: &[u8],
-    progress: &Progress,
     number: u64,
-    out: &mut W,
 ) -> io::Result<()> {
     let mut reader = SheetReader::new(file);
     let mut line: u64 = 0;
@@ -37,57 +36,57 @@ fn post_file<S: SheetStore, H: HourRule, W: Write>(
     while let Some(answer) = post_next(month, &mut reader) {
         line = line.saturating_add(1);
         match answer {
-            Answer::Refused(refusal) => refuse_sheet(out, number, line, refusal)?,
-            _ => posted = posted.saturating_add(1),
+            Ok(_) => posted = posted.saturating_add(1),
+            Err(refusal) => teller.refuse_sheet(number, line, refusal)?,
         }
-        progress.tell_sheets(rt, number, line)?;
+        teller.tell_sheets(number, line)?;
     }
-    accept_number(out, number, posted)
+    teller.accept_number(number, posted)
 }
 
 fn take_sheets<S: SheetStore, H: HourRule, W: Write>(
-    rt: &HostRuntime,
+    teller: &mut Teller<W>,
     month: &mut OpenMonth<S, H>,
     name: &[u8],
-    progress: &Progress,
     number: u64,
-    out: &mut W,
 ) -> io::Result<()> {
-    match read_sheets(rt, name) {
-        Ok(file) => post_file(rt, month, file.as_slice(), progress, number, out),
-        Err(fault) => writeln!(out, "{number}|malformed|the file cannot be read: {fault}"),
+    match read_sheets(teller.rt, name) {
+        Ok(file) => post_file(teller, month, file.as_slice(), number),
+        Err(fault) => {
+            writeln!(
+                teller.out,
+                "{number}|malformed|the file cannot be read: {fault}"
+            )
+        }
     }
 }
 
 // Takes one line; whether it closes the month.
 fn take_line<S: SheetStore, H: HourRule, W: Write>(
-    rt: &HostRuntime,
+    teller: &mut Teller<W>,
     month: &mut OpenMonth<S, H>,
     line: JobLine,
-    progress: &Progress,
-    out: &mut W,
 ) -> io::Result<bool> {
     let number = line.number;
     let command = match parse(line.text) {
         Ok(command) => command,
         Err(fault) => {
-            not_a_call(out, number, fault)?;
+            teller.malformed(number, fault)?;
             return Ok(false);
         }
     };
     if let Some(answer) = take(month, number, command) {
-        reply(out, number, answer)?;
+        teller.reply(number, answer)?;
         return Ok(false);
     }
     match command {
-        Command::Sheets(name) => take_sheets(rt, month, name, progress, number, out)?,
-        Command::Listing => list(rt.alloc(), month, number, out)?,
+        Command::Sheets(name) => take_sheets(teller, month, name, number)?,
+        Command::Listing => list(teller, month, number)?,
         Command::Close => {
-            accept(out, number)?;
+            teller.accept(number)?;
             return Ok(true);
         }
-        _ => malformed(
-            out,
+        _ => teller.malformed(
             number,
             "the month is open already: a job has one, and its points come before it is opened",
         )?,
@@ -97,54 +96,48 @@ fn take_line<S: SheetStore, H: HourRule, W: Write>(
 
 // Takes lines until one closes the month; whether one did.
 fn take_until_close<S: SheetStore, H: HourRule, W: Write>(
-    rt: &HostRuntime,
+    teller: &mut Teller<W>,
     month: &mut OpenMonth<S, H>,
-    progress: &Progress,
     lines: &mut JobLines,
-    out: &mut W,
 ) -> io::Result<bool> {
-    while let Some(line) = lines.next_line() {
-        if is_call(line.text) && take_line(rt, month, line, progress, out)? {
+    for line in lines.by_ref() {
+        if is_call(line.text) && take_line(teller, month, line)? {
             return Ok(true);
         }
-        progress.tell(rt, line.number)?;
+        teller.tell_line(line.number)?;
     }
     Ok(false)
 }
 
 // Opens the month over a store, works through its lines, and after its close through the questions.
 fn work_over<S: SheetStore + Drop, H: HourRule + Drop, W: Write>(
-    rt: &HostRuntime,
+    teller: &mut Teller<W>,
     setup: MonthSetup,
     store: S,
     peak_period: H,
     memory: &mut Memory,
-    progress: &Progress,
     lines: &mut JobLines,
-    out: &mut W,
 ) -> io::Result<()> {
-    let mut month = setup.open(
-        store,
-        peak_period,
-        History::over(memory.customers.as_mut_slice(), 0),
-        History::over(memory.transmitters.as_mut_slice(), 0),
-        History::over(memory.service.as_mut_slice(), 0),
-        History::over(memory.rates.as_mut_slice(), 0),
-        Ledger::over(memory.lines.as_mut_slice(), 0),
-    );
-    if take_until_close(rt, &mut month, progress, lines, out)? {
-        answer_questions(rt.alloc(), month.close().questions(), lines, out)?;
+    let histories = Histories {
+        customers: History::over(memory.customers.as_mut_slice(), 0),
+        transmitters: History::over(memory.transmitters.as_mut_slice(), 0),
+        service: History::over(memory.service.as_mut_slice(), 0),
+        rates: History::over(memory.rates.as_mut_slice(), 0),
+    };
+    let ledger = Ledger::over(memory.lines.as_mut_slice(), 0);
+    let mut month = setup.open(store, peak_period, histories, ledger);
+    if take_until_close(teller, &mut month, lines)? {
+        answer_questions(teller, month.close().questions(), lines)?;
     }
     Ok(())
 }
 
-// Settles the month over the store that the job asks for.
+// Settles the month over the store that the job asks for. The two stores are two types, made where they are lent memory; the
+// arms have no more in common than the call.
 pub(crate) fn work<W: Write>(
-    rt: &HostRuntime,
+    teller: &mut Teller<W>,
     opening: Opening,
-    progress: &Progress,
     lines: &mut JobLines,
-    out: &mut W,
 ) -> io::Result<()> {
     let Opening {
         setup,
@@ -160,29 +153,11 @@ pub(crate) fn work<W: Write>(
     match sheets {
         SheetMemory::Table(mut words) => {
             let store = FullTable::new(words.as_mut_slice(), points, days);
-            work_over(
-                rt,
-                setup,
-                store,
-                peak_period,
-                &mut memory,
-                progress,
-                lines,
-                out,
-            )
+            work_over(teller, setup, store, peak_period, &mut memory, lines)
         }
         SheetMemory::Rows(mut rows) => {
             let store = RowStore::new(rows.as_mut_slice(), points, days);
-            work_over(
-                rt,
-                setup,
-                store,
-                peak_period,
-                &mut memory,
-                progress,
-                lines,
-                out,
-            )
+            work_over(teller, setup, store, peak_period, &mut memory, lines)
         }
     }
 }

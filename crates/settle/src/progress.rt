@@ -6,23 +6,19 @@ use text::cuts::count_marks;
 // A message for every so many lines.
 const STEP: u64 = 1000;
 
+// How many lines the job has, where its progress is shown.
 #[derive(Clone, Copy)]
-pub(crate) struct Progress {
-    is_shown: bool,
-    lines: usize,
-}
+pub(crate) struct Progress(Option<usize>);
 
 impl Progress {
     pub(crate) fn of(rt: &HostRuntime, job: &[u8]) -> Progress {
-        Progress {
-            is_shown: rt.stderr().is_terminal(),
-            lines: count_marks(job, b'\n'),
-        }
+        Progress(rt.stderr().is_terminal().then(|| count_marks(job, b'\n')))
     }
 
     pub(crate) fn tell(&self, rt: &HostRuntime, line: u64) -> io::Result<()> {
-        if self.is_shown && line % STEP == 0 {
-            let lines = self.lines;
+        if let Some(lines) = self.0
+            && line % STEP == 0
+        {
             eprint!(rt; "\rsettle: line {line} of {lines}")?;
         }
         Ok(())
@@ -30,8 +26,9 @@ impl Progress {
 
     // While a file of sheets is posted.
     pub(crate) fn tell_sheets(&self, rt: &HostRuntime, line: u64, sheets: u64) -> io::Result<()> {
-        if self.is_shown && sheets % STEP == 0 {
-            let lines = self.lines;
+        if let Some(lines) = self.0
+            && sheets % STEP == 0
+        {
             eprint!(rt; "\rsettle: line {line} of {lines}, sheet {sheets}")?;
         }
         Ok(())
@@ -39,7 +36,7 @@ impl Progress {
 
     // Wipes the message away.
     pub(crate) fn end(&self, rt: &HostRuntime) -> io::Result<()> {
-        if self.is_shown {
+        if self.0.is_some() {
             eprint!(rt; "\r\x1b[K")?;
         }
         Ok(())

@@ -1,5 +1,5 @@
 // The lines before a month is open.
-use crate::answers::{accept, accept_number, malformed, not_a_call, refuse};
+use crate::answers::Teller;
 use crate::memory::{Memory, SheetMemory};
 use calendar::month::Calendar;
 use job::command::{Command, Places, StoreKind};
@@ -36,7 +36,7 @@ fn begin(year: u32, month: u32, holidays: u32, summer: u32) -> Result<Begun, Ref
 }
 
 // The month that a line begins, if it does.
-fn take_month<W: Write>(line: JobLine, out: &mut W) -> io::Result<Option<Begun>> {
+fn take_month<W: Write>(teller: &mut Teller<W>, line: JobLine) -> io::Result<Option<Begun>> {
     let number = line.number;
     match parse(line.text) {
         Ok(
@@ -48,29 +48,28 @@ fn take_month<W: Write>(line: JobLine, out: &mut W) -> io::Result<Option<Begun>>
             },
         ) => match begin(year, month, holidays, summer) {
             Ok(begun) => {
-                accept(out, number)?;
+                teller.accept(number)?;
                 return Ok(Some(begun));
             }
-            Err(refusal) => refuse(out, number, refusal)?,
+            Err(refusal) => teller.refuse(number, refusal)?,
         },
-        Ok(_) => malformed(
-            out,
+        Ok(_) => teller.malformed(
             number,
             "there is no month yet: begin it first, by a line month",
         )?,
-        Err(fault) => not_a_call(out, number, fault)?,
+        Err(fault) => teller.malformed(number, fault)?,
     }
     Ok(None)
 }
 
 // Takes lines until one begins a month.
 pub(crate) fn await_month<W: Write>(
+    teller: &mut Teller<W>,
     lines: &mut JobLines,
-    out: &mut W,
 ) -> io::Result<Option<Begun>> {
-    while let Some(line) = lines.next_line() {
+    for line in lines.by_ref() {
         if is_call(line.text) {
-            let begun = take_month(line, out)?;
+            let begun = take_month(teller, line)?;
             if begun.is_some() {
                 return Ok(begun);
             }
@@ -89,25 +88,19 @@ struct Wanted {
 
 // Takes a line of a month in set-up, whose points so far are counted; how it is to be opened, if the line says so.
 fn take_line<W: Write>(
+    teller: &mut Teller<W>,
     setup: &mut MonthSetup,
     points: &mut u32,
     line: JobLine,
-    out: &mut W,
 ) -> io::Result<Option<Wanted>> {
     let number = line.number;
     match parse(line.text) {
-        Ok(
-            Command::Point {
-                letter,
-                line,
-                transformation,
-            },
-        ) => match setup.declare_point(letter, line, transformation) {
+        Ok(Command::Point(point)) => match setup.declare_point(point) {
             Ok(point) => {
                 *points = point;
-                accept_number(out, number, u64::from(point))?;
+                teller.accept_number(number, u64::from(point))?;
             }
-            Err(refusal) => refuse(out, number, refusal)?,
+            Err(refusal) => teller.refuse(number, refusal)?,
         },
         Ok(Command::Open { store, places }) => {
             return Ok(Some(Wanted {
@@ -116,17 +109,15 @@ fn take_line<W: Write>(
                 places,
             }));
         }
-        Ok(Command::Month { .. }) => malformed(
-            out,
+        Ok(Command::Month { .. }) => teller.malformed(
             number,
             "the month is begun already: a job has one",
         )?,
-        Ok(_) => malformed(
-            out,
+        Ok(_) => teller.malformed(
             number,
             "the month is not open yet: open it first, by a line open",
         )?,
-        Err(fault) => not_a_call(out, number, fault)?,
+        Err(fault) => teller.malformed(number, fault)?,
     }
     Ok(None)
 }
@@ -145,26 +136,25 @@ fn memory_for(
 
 // Takes lines until one opens the month.
 pub(crate) fn set_up<W: Write>(
-    heap: Global,
+    teller: &mut Teller<W>,
     begun: Begun,
     lines: &mut JobLines,
-    out: &mut W,
 ) -> io::Result<Option<Opening>> {
     let Begun {
         mut setup,
         calendar,
     } = begun;
     let mut points = 0;
-    while let Some(line) = lines.next_line() {
+    for line in lines.by_ref() {
         if !is_call(line.text) {
             continue;
         }
-        let Some(wanted) = take_line(&mut setup, &mut points, line, out)? else {
+        let Some(wanted) = take_line(teller, &mut setup, &mut points, line)? else {
             continue;
         };
-        match memory_for(heap, points, calendar.days(), wanted) {
+        match memory_for(teller.rt.alloc(), points, calendar.days(), wanted) {
             Ok((sheets, memory)) => {
-                accept(out, wanted.line)?;
+                teller.accept(wanted.line)?;
                 return Ok(Some(Opening {
                     setup,
                     calendar,
@@ -173,7 +163,7 @@ pub(crate) fn set_up<W: Write>(
                     memory,
                 }));
             }
-            Err(_) => malformed(out, wanted.line, "there is no memory for so many places")?,
+            Err(_) => teller.malformed(wanted.line, "there is no memory for so many places")?,
         }
     }
     Ok(None)
