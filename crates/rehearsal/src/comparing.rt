@@ -1,103 +1,47 @@
 // Holds an open month against the second calculation's book.
-use crate::driving::{
-    account_of, call_of, cents_answer, charge_of, length_answer, outcome_answer, party_answer,
-    rates_answer, reading_answer, service_answer, statement_of,
-};
+// The month, the book and the tally stand as parameters: a call changes the month and the book, a question reads them, and the
+// tally is changed by both, so a struct of the three would be made anew for each with other borrows.
+use crate::driving::{charge_of, statement_of};
 use crate::generator::calls::{CUSTOMERS, TRANSMITTERS};
-use crate::plain::{
-    Answer, Matter, PlainAccount, PlainCall, PlainEntry, PlainReading, Topic, counted, filled, put,
-};
+use crate::plain::{Answer, Matter, PlainAccount, PlainCall, PlainPeak, RF, Topic, filled, put};
 use crate::second::book::Book;
 use crate::tally::Tally;
 use hours::rules::HourRule;
 use month::month::OpenMonth;
 use readings::readings::SheetStore;
+use std::iter;
 use tariff::parties::PartyNumber;
 
 // What stands in text memory that nothing was written to.
-const UNWRITTEN: u8 = b'#';
-
-pub fn plain_reading(reading: Option<PlainReading>) -> Answer {
-    match reading {
-        None => Answer::Nothing,
-        Some(reading) if reading.injected => Answer::Injection(reading.quantity),
-        Some(reading) => Answer::Withdrawal(reading.quantity),
-    }
-}
-
-fn plain_item(entry: Option<PlainEntry>) -> Answer {
-    match entry {
-        None => Answer::Nothing,
-        Some(entry) => Answer::Item(entry.item),
-    }
-}
+pub const UNWRITTEN: u8 = b'#';
 
 // The first place where memory is not the text, and unwritten after it.
-pub fn misplaced(memory: &[u8], text: &[u8]) -> Answer {
-    for (i, byte) in memory.iter().enumerate() {
-        if *byte != text.get(i).copied().unwrap_or(UNWRITTEN) {
-            return counted(i);
-        }
-    }
-    Answer::Nothing
+pub fn misplaced(memory: &[u8], text: &[u8]) -> Option<usize> {
+    let unwritten = iter::repeat(&UNWRITTEN);
+    memory
+        .iter()
+        .zip(text.iter().chain(unwritten))
+        .position(|(byte, wanted)| *byte != *wanted)
 }
 
-fn rank_answer(rank: Option<u32>) -> Answer {
-    match rank {
-        None => Answer::Nothing,
-        Some(rank) => Answer::Number(i64::from(rank)),
-    }
-}
-
-// The listing into memory with `places` places, and the statement that was issued last.
-fn compare_ledger<S: SheetStore, H: HourRule>(
-    month: &OpenMonth<S, H>,
-    book: &Book,
-    text: &[u8],
-    places: usize,
-    tally: &mut Tally,
-) {
-    let mut memory = filled(book.heap, UNWRITTEN, places);
-    let library = length_answer(month.write_listing(memory.as_mut_slice()));
-    let second = book.judge_listing(text.len(), places);
-    let written = match second {
-        Answer::Number(_) => text,
-        _ => &[],
-    };
-    let wrong = misplaced(memory.as_slice(), written);
-    let last = match month.last() {
-        None => None,
-        Some(statement) => Some(statement.rank()),
-    };
-    tally.compare(Matter::Listing, library, second);
-    tally.compare(Matter::ListingMemory, wrong, Answer::Nothing);
-    tally.compare(
-        Matter::LastStatement,
-        rank_answer(last),
-        rank_answer(book.last),
-    );
-}
-
-// The listing into memory with three places more than it needs.
+// The listing into memory with `spare` places more than it needs, or fewer, and the statement that was issued last.
 fn compare_listing<S: SheetStore, H: HourRule>(
     month: &OpenMonth<S, H>,
     book: &Book,
+    spare: isize,
     tally: &mut Tally,
 ) {
     let text = book.listing();
-    let places = text.len().saturating_add(3);
-    compare_ledger(month, book, text.as_slice(), places, tally);
-}
-
-// The listing into memory with one place too few.
-fn compare_short_listing<S: SheetStore, H: HourRule>(
-    month: &OpenMonth<S, H>,
-    book: &Book,
-    tally: &mut Tally,
-) {
-    let text = book.listing();
-    let places = text.len().saturating_sub(1);
-    compare_ledger(month, book, text.as_slice(), places, tally);
+    let places = text.len().saturating_add_signed(spare);
+    let mut memory = filled(book.heap, UNWRITTEN, places);
+    let library = month.write_listing(memory.as_mut_slice());
+    let second = book.judge_listing(text.len(), places);
+    let written = if second.is_ok() { text.as_bytes() } else { &[] };
+    let wrong = misplaced(memory.as_slice(), written);
+    let last = month.last().map(|statement| statement.rank());
+    tally.compare(Matter::Listing, library, second);
+    tally.compare(Matter::ListingMemory, wrong, Answer::Nothing);
+    tally.compare(Matter::LastStatement, last, book.last);
 }
 
 // What is on record of a point, and the rates, on a day. Nothing is said of what an unsound history has on record.
@@ -111,26 +55,14 @@ fn compare_records<S: SheetStore, H: HourRule>(
     if !book.has_sound_histories() {
         return;
     }
-    let customer = plain_item(book.on_record(Topic::Customer, point, day));
-    let transmitter = plain_item(book.on_record(Topic::Transmitter, point, day));
-    let service = plain_item(book.on_record(Topic::Service, point, day));
-    let rates = plain_item(book.on_record(Topic::Rates, 0, day));
-    tally.compare(
-        Matter::OnRecord,
-        party_answer(month.customer(point, day)),
-        customer,
-    );
-    tally.compare(
-        Matter::OnRecord,
-        party_answer(month.transmitter(point, day)),
-        transmitter,
-    );
-    tally.compare(
-        Matter::OnRecord,
-        service_answer(month.service(point, day)),
-        service,
-    );
-    tally.compare(Matter::OnRecord, rates_answer(month.rates(day)), rates);
+    let customer = book.on_record(Topic::Customer, point, day);
+    let transmitter = book.on_record(Topic::Transmitter, point, day);
+    let service = book.on_record(Topic::Service, point, day);
+    let rates = book.on_record(Topic::Rates, 0, day);
+    tally.compare(Matter::OnRecord, month.customer(point, day), customer);
+    tally.compare(Matter::OnRecord, month.transmitter(point, day), transmitter);
+    tally.compare(Matter::OnRecord, month.service(point, day), service);
+    tally.compare(Matter::OnRecord, month.rates(day), rates);
 }
 
 fn compare_reading<S: SheetStore, H: HourRule>(
@@ -141,8 +73,8 @@ fn compare_reading<S: SheetStore, H: HourRule>(
     hour: u32,
     tally: &mut Tally,
 ) {
-    let library = reading_answer(month.reading(point, day, hour));
-    let second = plain_reading(book.reading(point, day, hour));
+    let library = month.reading(point, day, hour);
+    let second = book.reading(point, day, hour);
     tally.compare(Matter::Reading, library, second);
 }
 
@@ -153,7 +85,7 @@ fn compare_unchanged<S: SheetStore, H: HourRule>(
     call: PlainCall,
     tally: &mut Tally,
 ) {
-    compare_listing(month, book, tally);
+    compare_listing(month, book, 3, tally);
     match call {
         PlainCall::Post(sheet) => compare_reading(month, book, sheet.point, sheet.day, 24, tally),
         PlainCall::Enter(_, entry) => {
@@ -171,14 +103,14 @@ pub fn compare_call<S: SheetStore, H: HourRule>(
     tally: &mut Tally,
 ) {
     tally.begin_call();
-    let library = outcome_answer(month.take(call_of(call)));
+    let library = month.take(call.into());
     let second = book.take(call);
     tally.compare(Matter::Outcome, library, second);
     match (call, second) {
-        (_, Answer::Refused { .. }) => compare_unchanged(month, book, call, tally),
-        (PlainCall::Issue(_), _) => {
+        (_, Err(_)) => compare_unchanged(month, book, call, tally),
+        (PlainCall::Issue(_), Ok(_)) => {
             tally.statements = tally.statements.saturating_add(1);
-            compare_listing(month, book, tally);
+            compare_listing(month, book, 3, tally);
         }
         _ => {}
     }
@@ -203,13 +135,13 @@ fn compare_credits<S: SheetStore, H: HourRule>(
     book: &Book,
     tally: &mut Tally,
 ) {
-    for rank in 0..9 {
+    for rank in 0..=RF {
         for charge in 650..=652 {
             for number in TRANSMITTERS {
                 let party = PartyNumber { number };
                 let credit = month.credit(statement_of(rank), charge_of(charge), party);
                 let second = book.judge_amount(book.credit(rank, charge, number));
-                tally.compare(Matter::Credit, cents_answer(credit), second);
+                tally.compare(Matter::Credit, credit, second);
             }
         }
     }
@@ -234,7 +166,7 @@ fn put_accounts(all: &mut Vec<PlainAccount>, point: u32) {
 
 // How many points are looked at closely.
 fn near_points(book: &Book) -> u32 {
-    u32::try_from(book.points.len()).unwrap_or(0).min(8)
+    book.count().min(8)
 }
 
 pub fn accounts(book: &Book) -> Vec<PlainAccount> {
@@ -252,7 +184,7 @@ fn compare_totals<S: SheetStore, H: HourRule>(
     tally: &mut Tally,
 ) {
     for account in accounts(book).as_slice() {
-        let library = cents_answer(month.total(&account_of(*account)));
+        let library = Answer::from(month.total(&(*account).into()));
         let second = book.judge_amount(book.total(*account));
         tally.compare(Matter::Total, library, second);
         put(&mut book.totals, library);
@@ -280,18 +212,12 @@ fn compare_peak<S: SheetStore, H: HourRule>(
     tally: &mut Tally,
 ) {
     let (quantity, day, hour) = month.peak();
-    let library = Answer::Peak {
+    let library = PlainPeak {
         quantity,
         day,
         hour,
     };
-    let peak = book.system_peak();
-    let second = Answer::Peak {
-        quantity: peak.quantity,
-        day: peak.day,
-        hour: peak.hour,
-    };
-    tally.compare(Matter::SystemPeak, library, second);
+    tally.compare(Matter::SystemPeak, library, book.system_peak());
 }
 
 // All that a month that is over answers.
@@ -300,8 +226,8 @@ pub fn compare_all<S: SheetStore, H: HourRule>(
     book: &mut Book,
     tally: &mut Tally,
 ) {
-    compare_listing(month, book, tally);
-    compare_short_listing(month, book, tally);
+    compare_listing(month, book, 3, tally);
+    compare_listing(month, book, -1, tally);
     compare_credits(month, book, tally);
     compare_points(month, book, tally);
     compare_peak(month, book, tally);

@@ -1,18 +1,20 @@
 // The library's side: plain values are turned into the library's, and its answers into plain ones.
 use crate::plain::{
-    Answer, LineShelf, PlainAccount, PlainCall, PlainEntry, PlainLine, PlainReading, PlainSheet,
-    Shelf, Topic, counted, put, refused, refused_at,
+    Answer, PlainAccount, PlainCall, PlainEntry, PlainLine, PlainPoint, PlainReading, PlainSheet,
+    Refused, Shelf, Topic, put,
 };
 use ledger::line::{Account, Line};
-use month::calls::{Call, Outcome};
+use month::calls::Call;
 use records::dated::Dated;
 use std::alloc::Global;
 use tariff::charge::Charge;
 use tariff::parties::{PartyNumber, Rates, Service};
+use tariff::points::Declaration;
 use tariff::reading::{Reading, Sheet};
 use tariff::refusal::Refusal;
 use tariff::statement::Statement;
 
+// By its rank; the book's ranks are 0 to 8.
 pub fn statement_of(rank: u32) -> Statement {
     match rank {
         0 => Statement::P,
@@ -27,6 +29,7 @@ pub fn statement_of(rank: u32) -> Statement {
     }
 }
 
+// By the number under which it is billed; the book's charges are 650 to 652.
 pub fn charge_of(number: u32) -> Charge {
     match number {
         650 => Charge::Network,
@@ -35,227 +38,187 @@ pub fn charge_of(number: u32) -> Charge {
     }
 }
 
-pub fn account_of(account: PlainAccount) -> Account {
-    Account {
-        point: account.point,
-        charge: charge_of(account.charge),
-        customer: PartyNumber {
-            number: account.customer,
-        },
-        transmitter: PartyNumber {
-            number: account.transmitter,
-        },
+impl From<PlainAccount> for Account {
+    fn from(account: PlainAccount) -> Account {
+        Account {
+            point: account.point,
+            charge: charge_of(account.charge),
+            customer: PartyNumber {
+                number: account.customer,
+            },
+            transmitter: PartyNumber {
+                number: account.transmitter,
+            },
+        }
     }
 }
 
-fn reading_of(reading: PlainReading) -> Reading {
-    if reading.injected {
-        Reading::Injection(reading.quantity)
-    } else {
-        Reading::Withdrawal(reading.quantity)
+impl From<PlainReading> for Reading {
+    fn from(reading: PlainReading) -> Reading {
+        match reading {
+            PlainReading::Withdrawal(quantity) => Reading::Withdrawal(quantity),
+            PlainReading::Injection(quantity) => Reading::Injection(quantity),
+        }
     }
 }
 
-pub fn sheet_of(sheet: &PlainSheet) -> Sheet {
-    let mut readings = [Reading::Withdrawal(0); 24];
-    for h in 0..24 {
-        readings[h] = reading_of(sheet.hours[h]);
-    }
-    Sheet {
-        point: sheet.point,
-        day: sheet.day,
-        readings,
+impl From<PlainSheet> for Sheet {
+    fn from(sheet: PlainSheet) -> Sheet {
+        Sheet {
+            point: sheet.point,
+            day: sheet.day,
+            readings: sheet.hours.map(Reading::from),
+        }
     }
 }
 
-fn party_of(entry: &PlainEntry) -> PartyNumber {
-    PartyNumber {
-        number: entry.item[0],
+impl From<PlainEntry> for PartyNumber {
+    fn from(entry: PlainEntry) -> PartyNumber {
+        let [number, _, _] = entry.item;
+        PartyNumber { number }
     }
 }
 
-fn service_of(entry: &PlainEntry) -> Service {
-    Service {
-        in_service: entry.item[0] == 1,
+impl From<PlainEntry> for Service {
+    fn from(entry: PlainEntry) -> Service {
+        Service {
+            in_service: entry.item[0] == 1,
+        }
     }
 }
 
-fn rates_of(entry: &PlainEntry) -> Rates {
-    Rates {
-        network: entry.item[0],
-        line: entry.item[1],
-        transformation: entry.item[2],
+impl From<PlainEntry> for Rates {
+    fn from(entry: PlainEntry) -> Rates {
+        let [network, line, transformation] = entry.item;
+        Rates {
+            network,
+            line,
+            transformation,
+        }
     }
 }
 
-fn entry_of(topic: Topic, entry: &PlainEntry) -> Call {
+fn entry_of(topic: Topic, entry: PlainEntry) -> Call {
     let point = entry.subject;
     let from_day = entry.from_day;
     match topic {
         Topic::Customer => Call::Customer {
             point,
             from_day,
-            party: party_of(entry),
+            party: entry.into(),
         },
         Topic::Transmitter => Call::Transmitter {
             point,
             from_day,
-            party: party_of(entry),
+            party: entry.into(),
         },
         Topic::Service => Call::Service {
             point,
             from_day,
-            service: service_of(entry),
+            service: entry.into(),
         },
         Topic::Rates => Call::Rates {
             from_day,
-            rates: rates_of(entry),
+            rates: entry.into(),
         },
     }
 }
 
-pub fn call_of(call: PlainCall) -> Call {
-    match call {
-        PlainCall::Post(sheet) => Call::Post(sheet_of(&sheet)),
-        PlainCall::Enter(topic, entry) => entry_of(topic, &entry),
-        PlainCall::Issue(rank) => Call::Issue(statement_of(rank)),
-    }
-}
-
-pub fn refusal_answer(refusal: Refusal) -> Answer {
-    let number = refusal.number();
-    match refusal {
-        Refusal::QuantityTooLarge { hour } => refused_at(number, u64::from(hour), 0),
-        Refusal::SheetMissing { point, day } => {
-            refused_at(number, u64::from(point), u64::from(day))
+impl From<PlainCall> for Call {
+    fn from(call: PlainCall) -> Call {
+        match call {
+            PlainCall::Post(sheet) => Call::Post(sheet.into()),
+            PlainCall::Enter(topic, entry) => entry_of(topic, entry),
+            PlainCall::Issue(rank) => Call::Issue(statement_of(rank)),
         }
-        Refusal::NothingOnRecord { point } => refused_at(number, u64::from(point), 0),
-        Refusal::NotTwentySixValues { line } => refused_at(number, line, 0),
-        Refusal::MalformedValue { place, line } => refused_at(number, u64::from(place), line),
-        _ => refused(number),
     }
 }
 
-pub fn outcome_answer(outcome: Outcome) -> Answer {
-    match outcome {
-        Outcome::Pending => Answer::Nothing,
-        Outcome::Accepted(lines) => counted(lines),
-        Outcome::Refused(refusal) => refusal_answer(refusal),
+impl From<PlainLine> for Line {
+    fn from(line: PlainLine) -> Line {
+        let account = Account::from(line.account);
+        Line {
+            statement: statement_of(line.rank),
+            point: account.point,
+            charge: account.charge,
+            customer: account.customer,
+            transmitter: account.transmitter,
+            cents: line.cents,
+            quantity: line.determinant.quantity,
+            day: line.determinant.day,
+            hour: line.determinant.hour,
+        }
     }
 }
 
-pub fn length_answer(outcome: Result<usize, Refusal>) -> Answer {
-    match outcome {
-        Ok(length) => counted(length),
-        Err(refusal) => refusal_answer(refusal),
+impl From<Refusal> for Refused {
+    fn from(refusal: Refusal) -> Refused {
+        let number = refusal.number();
+        match refusal {
+            Refusal::QuantityTooLarge { hour } => Refused::at(number, u64::from(hour), 0),
+            Refusal::SheetMissing { point, day } => {
+                Refused::at(number, u64::from(point), u64::from(day))
+            }
+            Refusal::NothingOnRecord { point } => Refused::at(number, u64::from(point), 0),
+            Refusal::NotTwentySixValues { line } => Refused::at(number, line, 0),
+            Refusal::MalformedValue { place, line } => Refused::at(number, u64::from(place), line),
+            _ => Refused::of(number),
+        }
     }
 }
 
-pub fn cents_answer(outcome: Result<i64, Refusal>) -> Answer {
-    match outcome {
-        Ok(cents) => Answer::Number(cents),
-        Err(refusal) => refusal_answer(refusal),
+impl From<PlainPoint> for Declaration {
+    fn from(point: PlainPoint) -> Declaration {
+        Declaration {
+            letter: point.letter,
+            line: point.line,
+            transformation: point.transformation,
+        }
     }
 }
 
-pub fn done_answer(outcome: Result<(), Refusal>) -> Answer {
-    match outcome {
-        Ok(()) => Answer::Number(0),
-        Err(refusal) => refusal_answer(refusal),
+impl From<Reading> for Answer {
+    fn from(reading: Reading) -> Answer {
+        Answer::Reading(match reading {
+            Reading::Withdrawal(quantity) => PlainReading::Withdrawal(quantity),
+            Reading::Injection(quantity) => PlainReading::Injection(quantity),
+        })
     }
 }
 
-pub fn reading_answer(reading: Option<Reading>) -> Answer {
-    match reading {
-        None => Answer::Nothing,
-        Some(Reading::Withdrawal(quantity)) => Answer::Withdrawal(quantity),
-        Some(Reading::Injection(quantity)) => Answer::Injection(quantity),
+impl From<PartyNumber> for Answer {
+    fn from(party: PartyNumber) -> Answer {
+        Answer::Item([party.number, 0, 0])
     }
 }
 
-pub fn party_answer(party: Option<PartyNumber>) -> Answer {
-    match party {
-        None => Answer::Nothing,
-        Some(party) => Answer::Item([party.number, 0, 0]),
+impl From<Service> for Answer {
+    fn from(service: Service) -> Answer {
+        Answer::Item([u32::from(service.in_service), 0, 0])
     }
 }
 
-pub fn service_answer(service: Option<Service>) -> Answer {
-    match service {
-        None => Answer::Nothing,
-        Some(service) => Answer::Item([u32::from(service.in_service), 0, 0]),
+impl From<Rates> for Answer {
+    fn from(rates: Rates) -> Answer {
+        Answer::Item([rates.network, rates.line, rates.transformation])
     }
 }
 
-pub fn rates_answer(rates: Option<Rates>) -> Answer {
-    match rates {
-        None => Answer::Nothing,
-        Some(rates) => Answer::Item([rates.network, rates.line, rates.transformation]),
-    }
-}
-
-// The memory of a history of parties, with the plain entries in it.
-pub fn party_memory(heap: Global, shelf: &Shelf) -> Vec<Dated<PartyNumber>> {
-    let mut memory = Vec::new(heap);
-    for entry in shelf.memory.as_slice() {
-        let dated = Dated {
+impl<T: From<PlainEntry>> From<PlainEntry> for Dated<T> {
+    fn from(entry: PlainEntry) -> Dated<T> {
+        Dated {
             subject: entry.subject,
             from_day: entry.from_day,
-            item: party_of(entry),
-        };
-        put(&mut memory, dated);
+            item: T::from(entry),
+        }
     }
-    memory
 }
 
-pub fn service_memory(heap: Global, shelf: &Shelf) -> Vec<Dated<Service>> {
+// The memory of a history or a ledger, with the plain items in it.
+pub fn memory_of<P: Copy, T: From<P> + Drop>(heap: Global, shelf: &Shelf<P>) -> Vec<T> {
     let mut memory = Vec::new(heap);
-    for entry in shelf.memory.as_slice() {
-        let dated = Dated {
-            subject: entry.subject,
-            from_day: entry.from_day,
-            item: service_of(entry),
-        };
-        put(&mut memory, dated);
-    }
-    memory
-}
-
-pub fn rates_memory(heap: Global, shelf: &Shelf) -> Vec<Dated<Rates>> {
-    let mut memory = Vec::new(heap);
-    for entry in shelf.memory.as_slice() {
-        let dated = Dated {
-            subject: entry.subject,
-            from_day: entry.from_day,
-            item: rates_of(entry),
-        };
-        put(&mut memory, dated);
-    }
-    memory
-}
-
-fn line_of(line: &PlainLine) -> Line {
-    Line {
-        statement: statement_of(line.rank),
-        point: line.point,
-        charge: charge_of(line.charge),
-        customer: PartyNumber {
-            number: line.customer,
-        },
-        transmitter: PartyNumber {
-            number: line.transmitter,
-        },
-        cents: line.cents,
-        quantity: line.quantity,
-        day: line.day,
-        hour: line.hour,
-    }
-}
-
-pub fn line_memory(heap: Global, shelf: &LineShelf) -> Vec<Line> {
-    let mut memory = Vec::new(heap);
-    for line in shelf.memory.as_slice() {
-        put(&mut memory, line_of(line));
+    for item in shelf.memory.as_slice() {
+        put(&mut memory, T::from(*item));
     }
     memory
 }

@@ -31,14 +31,16 @@ fn rehearse(heap: Global, tally: &mut Tally) {
     rehearse_may(heap, tally);
     rehearse_many_points(heap, tally);
     for number in 0..BARE_MONTHS {
-        if tally.difference.is_none() {
-            rehearse_bare(heap, number, tally);
+        if tally.difference.is_some() {
+            return;
         }
+        rehearse_bare(heap, number, tally);
     }
     for number in 0..MONTHS_WITH_CONTENTS {
-        if tally.difference.is_none() {
-            rehearse_contents(heap, number, tally);
+        if tally.difference.is_some() {
+            return;
         }
+        rehearse_contents(heap, number, tally);
     }
 }
 
@@ -84,7 +86,7 @@ fn complain(rt: &HostRuntime, difference: Difference) -> io::Result<()> {
 }
 
 fn main(rt: HostRuntime) -> anyhow::Result<()> {
-    let mut tally = Tally::new();
+    let mut tally = Tally::default();
     rehearse(rt.alloc(), &mut tally);
     if let Some(difference) = tally.difference {
         complain(&rt, difference)?;

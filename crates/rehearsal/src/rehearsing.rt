@@ -1,18 +1,19 @@
 // The months of the rehearsal. Each is made from its own number.
 use crate::comparing::accounts;
-use crate::driving::done_answer;
 use crate::generator::brought::{bare, with_contents};
 use crate::generator::calls::{other_order, some_calls, some_sheet};
 use crate::generator::dice::Dice;
 use crate::generator::months::{
     any_month, faulty_point, some_declarations, some_month, some_point, some_rule,
 };
-use crate::plain::{Answer, Matter, PlainCall, PlainMonth, PlainPoint, RuleKind, StorePlan, put};
+use crate::plain::{
+    Matter, PlainCall, PlainMonth, PlainPoint, RF, RuleKind, StoreKind, StorePlan, put,
+};
 use crate::second::book::{Book, declared_points};
 use crate::second::days::first_day;
 use crate::second::owed::due_of;
 use crate::second::taking::judge_store;
-use crate::settling::{Script, compare_making, settle_month};
+use crate::settling::{Script, Statements, compare_making, settle_month};
 use crate::tally::Tally;
 use crate::texts::compare_file;
 use std::alloc::Global;
@@ -20,12 +21,11 @@ use stores::full_table::FullTable;
 use stores::row_store::RowStore;
 
 fn compare_room(store: StorePlan, tally: &mut Tally) {
-    let checked = if store.rows {
-        RowStore::check(store.points, store.days, store.places)
-    } else {
-        FullTable::check(store.points, store.days, store.places)
+    let checked = match store.kind {
+        StoreKind::Rows => RowStore::check(store.points, store.days, store.places),
+        StoreKind::FullTable => FullTable::check(store.points, store.days, store.places),
     };
-    tally.compare(Matter::Room, done_answer(checked), judge_store(store));
+    tally.compare(Matter::Room, checked, judge_store(store));
 }
 
 fn count_points(heap: Global, declarations: &[PlainPoint]) -> u32 {
@@ -35,17 +35,13 @@ fn count_points(heap: Global, declarations: &[PlainPoint]) -> u32 {
 
 // Once RF was issued at the end, every account's total is what it is due.
 fn compare_dues(book: &Book, tally: &mut Tally) {
-    if book.last != Some(8) {
+    if book.last != Some(RF) {
         return;
     }
     let dues = book.dues();
     let accounts = accounts(book);
-    for (account, total) in accounts
-        .as_slice()
-        .iter()
-        .zip(book.totals.as_slice().iter())
-    {
-        let due = Answer::Number(due_of(dues.as_slice(), *account));
+    for (account, total) in accounts.iter().zip(book.totals.iter()) {
+        let due = due_of(dues.as_slice(), *account);
         tally.compare(Matter::TotalAndDue, *total, due);
     }
 }
@@ -57,7 +53,10 @@ pub fn settle_eagerly(
     calls: &[PlainCall],
     tally: &mut Tally,
 ) {
-    let script = Script { calls, eager: true };
+    let script = Script {
+        calls,
+        statements: Statements::AfterEverySheet,
+    };
     settle_month(book, declarations, script, tally);
 }
 
@@ -71,18 +70,17 @@ pub fn settle_at_the_end(
     let calls = other_order(book.heap, history);
     let script = Script {
         calls: calls.as_slice(),
-        eager: false,
+        statements: Statements::AtTheEnd,
     };
     settle_month(book, declarations, script, tally);
 }
 
 // Where both orders came to RF, the totals of all accounts are the same.
 pub fn compare_orders(book: &Book, again: &Book, tally: &mut Tally) {
-    if book.last != Some(8) || again.last != Some(8) {
+    if book.last != Some(RF) || again.last != Some(RF) {
         return;
     }
-    let totals = again.totals.as_slice();
-    for (first, second) in book.totals.as_slice().iter().zip(totals.iter()) {
+    for (first, second) in book.totals.iter().zip(again.totals.iter()) {
         tally.compare(Matter::TotalsOfBothOrders, *first, *second);
     }
     tally.both_orders = tally.both_orders.saturating_add(1);
@@ -174,9 +172,5 @@ pub fn rehearse_many_points(heap: Global, tally: &mut Tally) {
     let calls = few_sheets(heap, &mut dice);
     let brought = bare(heap, &mut dice, month, 400, 3, RuleKind::PeakPeriod);
     let mut book = Book::new(heap, month, declarations.as_slice(), brought);
-    let script = Script {
-        calls: calls.as_slice(),
-        eager: true,
-    };
-    settle_month(&mut book, declarations.as_slice(), script, tally);
+    settle_eagerly(&mut book, declarations.as_slice(), calls.as_slice(), tally);
 }

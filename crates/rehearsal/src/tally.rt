@@ -13,7 +13,7 @@ pub struct Difference {
     pub second: Answer,
 }
 
-#[derive(Drop)]
+#[derive(Drop, Default)]
 pub struct Tally {
     pub months: u32,
     // Months that came to RF in both orders.
@@ -29,20 +29,6 @@ pub struct Tally {
 }
 
 impl Tally {
-    pub fn new() -> Tally {
-        Tally {
-            months: 0,
-            both_orders: 0,
-            calls: 0,
-            statements: 0,
-            file_lines: 0,
-            answers: 0,
-            refusals: [0; REFUSAL_NUMBERS],
-            call: 0,
-            difference: None,
-        }
-    }
-
     pub fn begin_month(&mut self) {
         self.months = self.months.saturating_add(1);
         self.call = 0;
@@ -59,11 +45,21 @@ impl Tally {
         }
     }
 
-    // Holds what the library answers against what the second calculation says, and keeps the first difference.
-    pub fn compare(&mut self, matter: Matter, library: Answer, second: Answer) {
+    // Holds what the library answers against what the second calculation says, and keeps the first difference:
+    // what follows in the month is compared all the same, so no comparison has to hand one up.
+    pub fn compare<L: Into<Answer>, S: Into<Answer>>(
+        &mut self,
+        matter: Matter,
+        library: L,
+        second: S,
+    ) {
+        self.compare_answers(matter, library.into(), second.into());
+    }
+
+    fn compare_answers(&mut self, matter: Matter, library: Answer, second: Answer) {
         self.answers = self.answers.saturating_add(1);
-        if let Answer::Refused { number, .. } = second {
-            self.count_refusal(number);
+        if let Answer::Refused(refused) = second {
+            self.count_refusal(refused.number);
         }
         if library != second && self.difference.is_none() {
             self.difference = Some(Difference {

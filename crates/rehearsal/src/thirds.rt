@@ -1,6 +1,4 @@
 // An hour rule that the library does not have.
-ghost use Rattle.std.specs.Prelude.{◌≡◌, ℕ, Bool, true};
-ghost use Rattle.hours.specs.Hours.{Inside};
 ghost use Rattle.rehearsal.specs.Thirds.{in_thirds, thirds_within};
 
 use hours::rules::HourRule;
@@ -19,6 +17,6 @@ impl HourRule for EveryThirdHour {
     ghost within = { λ t d h. thirds_within t.days d h };
 
     fn admits_hour(&self, day: u32, hour: u32) -> bool {
-        1 <= day && day <= self.days && 1 <= hour && hour <= 24 && (day % 3 + hour) % 3 == 0
+        (1..=self.days).contains(&day) && (1..=24).contains(&hour) && (day % 3 + hour) % 3 == 0
     }
 }

@@ -4,11 +4,11 @@ use crate::generator::brought::bare;
 use crate::generator::dice::Dice;
 use crate::plain::{
     Answer, Matter, PlainCall, PlainEntry, PlainMonth, PlainPoint, PlainReading, PlainSheet,
-    RuleKind, Topic, counted, put,
+    RuleKind, Topic, put,
 };
 use crate::rehearsing::{compare_orders, settle_at_the_end};
 use crate::second::book::Book;
-use crate::settling::{Script, settle_month};
+use crate::settling::{Script, Statements, settle_month};
 use crate::tally::Tally;
 use std::alloc::Global;
 
@@ -48,18 +48,11 @@ const POINTS: [PlainPoint; 3] = [
     },
 ];
 
-fn withdrawal(quantity: u32) -> PlainReading {
-    PlainReading {
-        injected: false,
-        quantity,
-    }
-}
-
 fn level(point: u32, day: u32, quantity: u32) -> PlainSheet {
     PlainSheet {
         point,
         day,
-        hours: [withdrawal(quantity); 24],
+        hours: [PlainReading::Withdrawal(quantity); 24],
     }
 }
 
@@ -72,11 +65,11 @@ fn sheet_of(point: u32, day: u32) -> PlainSheet {
     };
     let mut sheet = level(point, day, usual);
     match (point, day) {
-        (1, 10) => sheet.hours[17] = withdrawal(150_000),
-        (2, 10) => sheet.hours[17] = withdrawal(140_000),
-        (2, 11) => sheet.hours[2] = withdrawal(230_000),
-        (3, 20) => sheet.hours[23] = withdrawal(60_000),
-        (3, 21) => sheet.hours[0] = withdrawal(60_000),
+        (1, 10) => sheet.hours[17] = PlainReading::Withdrawal(150_000),
+        (2, 10) => sheet.hours[17] = PlainReading::Withdrawal(140_000),
+        (2, 11) => sheet.hours[2] = PlainReading::Withdrawal(230_000),
+        (3, 20) => sheet.hours[23] = PlainReading::Withdrawal(60_000),
+        (3, 21) => sheet.hours[0] = PlainReading::Withdrawal(60_000),
         _ => {}
     }
     sheet
@@ -127,11 +120,7 @@ fn calls_of_may(heap: Global) -> Vec<PlainCall> {
 fn compare_text(listing: &[u8], tally: &mut Tally) {
     let differs = misplaced(listing, LISTING);
     tally.compare(Matter::WorkedMonth, differs, Answer::Nothing);
-    tally.compare(
-        Matter::WorkedMonth,
-        counted(LISTING.len()),
-        counted(listing.len()),
-    );
+    tally.compare(Matter::WorkedMonth, LISTING.len(), listing.len());
 }
 
 fn book_of_may(heap: Global, dice: &mut Dice) -> Book {
@@ -148,10 +137,10 @@ pub fn rehearse_may(heap: Global, tally: &mut Tally) {
     let calls = calls_of_may(heap);
     let script = Script {
         calls: calls.as_slice(),
-        eager: false,
+        statements: Statements::AtTheEnd,
     };
     settle_month(&mut book, &POINTS, script, tally);
-    compare_text(book.listing().as_slice(), tally);
+    compare_text(book.listing().as_bytes(), tally);
     let mut again = book_of_may(heap, &mut dice);
     settle_at_the_end(&mut again, &POINTS, book.history.as_slice(), tally);
     compare_orders(&book, &again, tally);

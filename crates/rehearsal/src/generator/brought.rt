@@ -3,8 +3,8 @@ use super::calls::some_item;
 use super::dice::Dice;
 use super::months::some_rule;
 use crate::plain::{
-    Brought, LineShelf, PlainEntry, PlainLine, PlainMonth, RuleKind, Shelf, StorePlan, Topic,
-    filled,
+    Brought, PlainAccount, PlainEntry, PlainLine, PlainMonth, PlainPeak, RuleKind, Shelf,
+    StoreKind, StorePlan, Topic, filled,
 };
 use crate::second::days::days_in;
 use std::alloc::Global;
@@ -18,32 +18,39 @@ const ANYTHING: PlainEntry = PlainEntry {
 
 const ANY_LINE: PlainLine = PlainLine {
     rank: 3,
-    point: 4_000,
-    charge: 651,
-    customer: 0,
-    transmitter: 41,
+    account: PlainAccount {
+        point: 4_000,
+        charge: 651,
+        customer: 0,
+        transmitter: 41,
+    },
     cents: i64::MIN,
-    quantity: u64::MAX,
-    day: 77,
-    hour: 99,
+    determinant: PlainPeak {
+        quantity: u64::MAX,
+        day: 77,
+        hour: 99,
+    },
 };
 
 // A store that fits the month.
 fn fitting_store(dice: &mut Dice, points: u32, days: u32) -> StorePlan {
-    let rows = dice.one_in(2);
+    let kind = if dice.one_in(2) {
+        StoreKind::Rows
+    } else {
+        StoreKind::FullTable
+    };
     let sheets = points.saturating_mul(days);
-    let per_sheet = if rows { 1 } else { 24 };
     StorePlan {
-        rows,
+        kind,
         points,
         days,
-        places: sheets.saturating_mul(per_sheet) as usize,
+        places: sheets.saturating_mul(kind.places_per_sheet()) as usize,
     }
 }
 
-fn bare_shelf(heap: Global, places: usize) -> Shelf {
+fn bare_shelf<T: Copy + Clone + Drop>(heap: Global, anything: T, places: usize) -> Shelf<T> {
     Shelf {
-        memory: filled(heap, ANYTHING, places),
+        memory: filled(heap, anything, places),
         used: 0,
     }
 }
@@ -60,14 +67,11 @@ pub fn bare(
     Brought {
         rule,
         store: fitting_store(dice, points, days_in(month.year, month.month)),
-        customers: bare_shelf(heap, places),
-        transmitters: bare_shelf(heap, places),
-        service: bare_shelf(heap, places),
-        rates: bare_shelf(heap, places),
-        ledger: LineShelf {
-            memory: filled(heap, ANY_LINE, 400),
-            used: 0,
-        },
+        customers: bare_shelf(heap, ANYTHING, places),
+        transmitters: bare_shelf(heap, ANYTHING, places),
+        service: bare_shelf(heap, ANYTHING, places),
+        rates: bare_shelf(heap, ANYTHING, places),
+        ledger: bare_shelf(heap, ANY_LINE, 400),
     }
 }
 
@@ -113,18 +117,21 @@ fn brought_entry(dice: &mut Dice, topic: Topic, from_day: u32, place: u32) -> Pl
     entry
 }
 
-// A history with a few entries in use, mostly in order and sound, and a few places left.
-fn some_shelf(heap: Global, dice: &mut Dice, topic: Topic, from_day: u32) -> Shelf {
+// Memory with a few items in use and fewer than `most` places left. How much is in use may be told wrong.
+fn some_shelf<T: Copy + Clone + Drop, F: FnMut(&mut Dice, u32) -> T>(
+    heap: Global,
+    dice: &mut Dice,
+    anything: T,
+    most: u32,
+    mut some_item: F,
+) -> Shelf<T>
+    requires { F.IsAlwaysCallable some_item }
+{
     let in_use = dice.roll(6);
-    let mut memory = filled(
-        heap,
-        ANYTHING,
-        in_use.saturating_add(dice.roll(12)) as usize,
-    );
-    for place in 0..in_use {
-        if let Some(entry) = memory.get_mut(place as usize) {
-            *entry = brought_entry(dice, topic, from_day, place);
-        }
+    let places = in_use.saturating_add(dice.roll(most)) as usize;
+    let mut memory = filled(heap, anything, places);
+    for (item, place) in memory.iter_mut().zip(0..in_use) {
+        *item = some_item(dice, place);
     }
     let length = memory.len();
     Shelf {
@@ -137,56 +144,48 @@ fn some_shelf(heap: Global, dice: &mut Dice, topic: Topic, from_day: u32) -> She
     }
 }
 
+// A history with a few entries in use, mostly in order and sound, and a few places left.
+fn some_history(heap: Global, dice: &mut Dice, topic: Topic, from_day: u32) -> Shelf<PlainEntry> {
+    some_shelf(heap, dice, ANYTHING, 12, |dice, place| {
+        brought_entry(dice, topic, from_day, place)
+    })
+}
+
 // A line that is sound more often than not.
 fn some_line(dice: &mut Dice) -> PlainLine {
     let large = if dice.one_in(3) { 0 } else { 9_999_999_900 };
     let mut line = PlainLine {
         rank: dice.roll(9),
-        point: dice.pick(&[1, 1, 1, 2, 400]),
-        charge: dice.pick(&[650, 650, 651, 652]),
-        customer: dice.pick(&[41, 41, 42]),
-        transmitter: dice.pick(&[7, 7, 8]),
+        account: PlainAccount {
+            point: dice.pick(&[1, 1, 1, 2, 400]),
+            charge: dice.pick(&[650, 650, 651, 652]),
+            customer: dice.pick(&[41, 41, 42]),
+            transmitter: dice.pick(&[7, 7, 8]),
+        },
         cents: if dice.one_in(3) { -large } else { large },
-        quantity: 9_999_999_900,
-        day: dice.roll(32),
-        hour: dice.roll(25),
+        determinant: PlainPeak {
+            quantity: 9_999_999_900,
+            day: dice.roll(32),
+            hour: dice.roll(25),
+        },
     };
     match dice.roll(80) {
-        0 => line.point = dice.pick(&[0, 401]),
-        1 => line.customer = dice.pick(&[0, 1_000_000_000]),
-        2 => line.transmitter = dice.pick(&[0, 1_000_000_000]),
+        0 => line.account.point = dice.pick(&[0, 401]),
+        1 => line.account.customer = dice.pick(&[0, 1_000_000_000]),
+        2 => line.account.transmitter = dice.pick(&[0, 1_000_000_000]),
         3 => line.cents = 9_999_999_901,
         4 => line.cents = -9_999_999_901,
-        5 => line.quantity = 9_999_999_901,
-        6 => line.day = 32,
-        7 => line.hour = 25,
+        5 => line.determinant.quantity = 9_999_999_901,
+        6 => line.determinant.day = 32,
+        7 => line.determinant.hour = 25,
         _ => {}
     }
     line
 }
 
 // A ledger with a few lines in use and few places left.
-fn some_ledger(heap: Global, dice: &mut Dice) -> LineShelf {
-    let in_use = dice.roll(6);
-    let mut memory = filled(
-        heap,
-        ANY_LINE,
-        in_use.saturating_add(dice.roll(16)) as usize,
-    );
-    for place in 0..in_use {
-        if let Some(line) = memory.get_mut(place as usize) {
-            *line = some_line(dice);
-        }
-    }
-    let length = memory.len();
-    LineShelf {
-        memory,
-        used: if dice.one_in(12) {
-            length.saturating_add(1)
-        } else {
-            in_use as usize
-        },
-    }
+fn some_ledger(heap: Global, dice: &mut Dice) -> Shelf<PlainLine> {
+    some_shelf(heap, dice, ANY_LINE, 16, |dice, _| some_line(dice))
 }
 
 // Memory with contents, which the calls that meet it have to test.
@@ -201,10 +200,10 @@ pub fn with_contents(
     Brought {
         rule: some_rule(dice),
         store: some_store(dice, points, days),
-        customers: some_shelf(heap, dice, Topic::Customer, from_day),
-        transmitters: some_shelf(heap, dice, Topic::Transmitter, from_day),
-        service: some_shelf(heap, dice, Topic::Service, from_day),
-        rates: some_shelf(heap, dice, Topic::Rates, from_day),
+        customers: some_history(heap, dice, Topic::Customer, from_day),
+        transmitters: some_history(heap, dice, Topic::Transmitter, from_day),
+        service: some_history(heap, dice, Topic::Service, from_day),
+        rates: some_history(heap, dice, Topic::Rates, from_day),
         ledger: some_ledger(heap, dice),
     }
 }

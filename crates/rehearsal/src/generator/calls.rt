@@ -1,8 +1,7 @@
 // Sheets, entries and statements for a month.
 use super::dice::Dice;
-use crate::plain::{PlainCall, PlainEntry, PlainReading, PlainSheet, Topic, in_use, put};
+use crate::plain::{PlainCall, PlainEntry, PlainReading, PlainSheet, Topic, front, put};
 use crate::second::book::Book;
-use crate::second::owed::number_of;
 use std::alloc::Global;
 
 // Few, so that equal hours are common; 84,999 and 85,000 lie on either side of 85 per cent of 100,000.
@@ -18,18 +17,21 @@ pub const TRANSMITTERS: [u32; 3] = [1, 7, 8];
 const LAST_FROM_DAY: u32 = 36_524;
 
 fn some_reading(dice: &mut Dice) -> PlainReading {
-    PlainReading {
-        injected: dice.one_in(10),
-        quantity: dice.pick(&QUANTITIES),
+    let is_injected = dice.one_in(10);
+    let quantity = dice.pick(&QUANTITIES);
+    if is_injected {
+        PlainReading::Injection(quantity)
+    } else {
+        PlainReading::Withdrawal(quantity)
     }
 }
 
 // One reading at most hours, and others at a few.
 pub fn some_sheet(dice: &mut Dice, point: u32, day: u32) -> PlainSheet {
     let mut hours = [some_reading(dice); 24];
-    for h in 0..24 {
+    for hour in hours.iter_mut() {
         if dice.one_in(8) {
-            hours[h] = some_reading(dice);
+            *hour = some_reading(dice);
         }
     }
     PlainSheet { point, day, hours }
@@ -78,7 +80,7 @@ fn some_entry(dice: &mut Dice, book: &Book, topic: Topic, point: u32) -> PlainEn
 
 // The number of one of the points, or 1.
 fn some_number(dice: &mut Dice, book: &Book) -> u32 {
-    dice.one_to(u32::try_from(book.points.len()).unwrap_or(1))
+    dice.one_to(book.count())
 }
 
 // A sheet again, or an entry.
@@ -104,9 +106,9 @@ fn faulty_sheet(dice: &mut Dice, book: &Book) -> PlainSheet {
         sheet.day = dice.pick(&[0, 29, 30, 31, 32, u32::MAX]);
     }
     if dice.one_in(2) {
-        for h in 0..24 {
+        for hour in sheet.hours.iter_mut() {
             if dice.one_in(9) {
-                sheet.hours[h].quantity = dice.pick(&[99_999_999, 100_000_000, u32::MAX]);
+                *hour = hour.with(dice.pick(&[99_999_999, 100_000_000, u32::MAX]));
             }
         }
     }
@@ -149,7 +151,7 @@ fn faulty_call(dice: &mut Dice, book: &Book) -> PlainCall {
     }
 }
 
-// Puts calls into another order.
+// Puts calls into another order: each place is exchanged with another, so that it is places that are gone through.
 fn shuffle(dice: &mut Dice, calls: &mut Vec<PlainCall>) {
     let count = calls.len();
     for i in 0..count {
@@ -169,8 +171,8 @@ fn put_needed_entries(dice: &mut Dice, book: &Book, calls: &mut Vec<PlainCall>) 
         Topic::Transmitter,
         Topic::Service,
     ] {
-        for i in 0..book.points.len().max(1) {
-            let mut entry = some_entry(dice, book, topic, number_of(i));
+        for point in 1..=book.count().max(1) {
+            let mut entry = some_entry(dice, book, topic, point);
             entry.from_day = from_day;
             put(calls, PlainCall::Enter(topic, entry));
         }
@@ -178,9 +180,9 @@ fn put_needed_entries(dice: &mut Dice, book: &Book, calls: &mut Vec<PlainCall>) 
 }
 
 fn put_needed_sheets(dice: &mut Dice, book: &Book, calls: &mut Vec<PlainCall>) {
-    for i in 0..book.points.len() {
+    for point in 1..=book.count() {
         for day in 1..=book.days() {
-            let sheet = some_sheet(dice, number_of(i), day);
+            let sheet = some_sheet(dice, point, day);
             put(calls, PlainCall::Post(sheet));
         }
     }
@@ -226,29 +228,24 @@ pub fn some_calls(heap: Global, dice: &mut Dice, book: &Book, changes: u32) -> V
 // Whether the second call takes the first one's place: a sheet for the same point and day, or an entry for the same
 // subject and from-day.
 fn replaces(first: &PlainCall, second: &PlainCall) -> bool {
-    match (*first, *second) {
-        (PlainCall::Post(a), PlainCall::Post(b)) => a.point == b.point && a.day == b.day,
+    match (first, second) {
+        (PlainCall::Post(a), PlainCall::Post(b)) => a.place() == b.place(),
         (PlainCall::Enter(of, a), PlainCall::Enter(topic, b)) => {
-            of == topic && a.subject == b.subject && a.from_day == b.from_day
+            *of == *topic && a.place() == b.place()
         }
         _ => false,
     }
 }
 
-fn is_replaced(call: &PlainCall, later: &[PlainCall]) -> bool {
-    for other in later {
-        if replaces(call, other) {
-            return true;
-        }
-    }
-    false
+fn is_replaced(call: &PlainCall, others: &[PlainCall]) -> bool {
+    others.iter().any(|other| replaces(call, other))
 }
 
 // The calls that took another one's place and stand.
 fn put_standing(calls: &mut Vec<PlainCall>, history: &[PlainCall]) {
     for (i, call) in history.iter().enumerate() {
         let later = history.get(i.saturating_add(1)..).unwrap_or(&[]);
-        if is_replaced(call, in_use(history, i)) && !is_replaced(call, later) {
+        if is_replaced(call, front(history, i)) && !is_replaced(call, later) {
             put(calls, *call);
         }
     }

@@ -27,8 +27,9 @@ impl Dice {
         self.roll(sides) == 0
     }
 
-    pub fn pick(&mut self, choices: &[u32]) -> u32 {
+    // One of the choices; the default of none.
+    pub fn pick<T: Copy + Default>(&mut self, choices: &[T]) -> T {
         let at = self.roll(u32::try_from(choices.len()).unwrap_or(1));
-        choices.get(at as usize).copied().unwrap_or(0)
+        choices.get(at as usize).copied().unwrap_or_default()
     }
 }

@@ -2,10 +2,10 @@
 use super::calls::some_sheet;
 use super::dice::Dice;
 use crate::plain::{put, put_all};
-use crate::second::written::push_sheet;
+use crate::second::written::sheet_line;
 use std::alloc::Global;
 
-const ODD_BYTES: [u32; 10] = [48, 57, 73, 87, 119, 124, 32, 45, 0, 255];
+const ODD_BYTES: &[u8] = b"09IWw| -\0\xff";
 
 // Puts another byte into a line, or takes its end away.
 fn spoil(dice: &mut Dice, line: &mut Vec<u8>) {
@@ -15,7 +15,7 @@ fn spoil(dice: &mut Dice, line: &mut Vec<u8>) {
         line.truncate(at);
         return;
     }
-    let odd = u8::try_from(dice.pick(&ODD_BYTES)).unwrap_or(0);
+    let odd = dice.pick(ODD_BYTES);
     if let Some(byte) = line.get_mut(at) {
         *byte = odd;
     }
@@ -27,8 +27,7 @@ pub fn some_file(heap: Global, dice: &mut Dice, points: u32, days: u32) -> Vec<u
     for _ in 0..dice.roll(6) {
         let point = dice.pick(&[1, points, 999_999_999, 1_000_000_000]);
         let day = dice.pick(&[1, 2, days, 99, 100]);
-        let mut line = Vec::new(heap);
-        push_sheet(&mut line, &some_sheet(dice, point, day));
+        let mut line = sheet_line(heap, &some_sheet(dice, point, day)).into_bytes();
         if dice.one_in(2) {
             spoil(dice, &mut line);
         }

@@ -2,8 +2,8 @@
 // what is due are worked out from these anew each time.
 use super::days::{days_in, first_day};
 use crate::plain::{
-    Answer, Brought, PlainCall, PlainEntry, PlainLine, PlainMonth, PlainPoint, PlainReading, Shelf,
-    Topic, counted, in_use, put, put_all, refused,
+    Answer, Brought, PlainCall, PlainEntry, PlainLine, PlainMonth, PlainPoint, PlainReading,
+    Refused, Shelf, Topic, numbered, put, put_all,
 };
 use std::alloc::Global;
 
@@ -30,10 +30,7 @@ impl Book {
         brought: Brought,
     ) -> Book {
         let mut lines = Vec::new(heap);
-        put_all(
-            &mut lines,
-            in_use(brought.ledger.memory.as_slice(), brought.ledger.used),
-        );
+        put_all(&mut lines, brought.ledger.in_use());
         Book {
             heap,
             month,
@@ -60,15 +57,17 @@ impl Book {
             .saturating_sub(1)
     }
 
-    // What was declared under a point's number.
-    pub fn point(&self, number: u32) -> Option<PlainPoint> {
-        if number < 1 {
-            return None;
-        }
-        self.points.get((number - 1) as usize).copied()
+    // How many points there are, which is the number of the last one.
+    pub fn count(&self) -> u32 {
+        u32::try_from(self.points.len()).unwrap_or(u32::MAX)
     }
 
-    pub fn shelf(&self, topic: Topic) -> &Shelf {
+    // What was declared under a point's number.
+    pub fn point(&self, number: u32) -> Option<PlainPoint> {
+        numbered(self.points.as_slice(), number).copied()
+    }
+
+    pub fn shelf(&self, topic: Topic) -> &Shelf<PlainEntry> {
         match topic {
             Topic::Customer => &self.brought.customers,
             Topic::Transmitter => &self.brought.transmitters,
@@ -79,9 +78,8 @@ impl Book {
 
     // All entries of a history as they came: those that were brought, then those that were accepted.
     pub fn entries(&self, topic: Topic) -> Vec<PlainEntry> {
-        let shelf = self.shelf(topic);
         let mut entries = Vec::new(self.heap);
-        put_all(&mut entries, in_use(shelf.memory.as_slice(), shelf.used));
+        put_all(&mut entries, self.shelf(topic).in_use());
         for call in self.history.as_slice() {
             if let PlainCall::Enter(of, entry) = *call
                 && of == topic
@@ -98,37 +96,31 @@ impl Book {
 
     // The reading of an hour: that of the last sheet for the point and day.
     pub fn reading(&self, point: u32, day: u32, hour: u32) -> Option<PlainReading> {
-        let mut found = None;
-        for call in self.history.as_slice() {
-            if let PlainCall::Post(sheet) = *call
-                && sheet.point == point
-                && sheet.day == day
-                && 1 <= hour
-                && hour <= 24
-            {
-                found = Some(sheet.hours[(hour - 1) as usize]);
+        self.history.iter().rev().find_map(|call| match call {
+            PlainCall::Post(sheet) if sheet.place() == (point, day) => {
+                numbered(&sheet.hours, hour).copied()
             }
-        }
-        found
+            _ => None,
+        })
     }
 }
 
 // A 401st point is 4; any other than N without marks or C with one or two is 3. One that is taken is answered its number.
-pub fn judge_point(declared: usize, point: PlainPoint) -> Answer {
+pub fn judge_point(declared: usize, point: PlainPoint) -> Result<usize, Refused> {
     if declared >= 400 {
-        return refused(4);
+        return Err(Refused::of(4));
     }
     let marked = point.line || point.transformation;
     match (point.letter, marked) {
-        (b'N', false) | (b'C', true) => counted(declared.saturating_add(1)),
-        _ => refused(3),
+        (b'N', false) | (b'C', true) => Ok(declared.saturating_add(1)),
+        _ => Err(Refused::of(3)),
     }
 }
 
 pub fn declared_points(heap: Global, declarations: &[PlainPoint]) -> Vec<PlainPoint> {
     let mut points = Vec::new(heap);
     for point in declarations {
-        if let Answer::Number(_) = judge_point(points.len(), *point) {
+        if judge_point(points.len(), *point).is_ok() {
             put(&mut points, *point);
         }
     }
@@ -137,15 +129,9 @@ pub fn declared_points(heap: Global, declarations: &[PlainPoint]) -> Vec<PlainPo
 
 // What is on record: the item with the greatest from-day not after the day, and of one from-day the last that came.
 pub fn latest_of(entries: &[PlainEntry], subject: u32, day: u32) -> Option<PlainEntry> {
-    let mut found: Option<PlainEntry> = None;
-    for entry in entries {
-        let earlier = match found {
-            Some(other) => other.from_day > entry.from_day,
-            None => false,
-        };
-        if entry.subject == subject && entry.from_day <= day && !earlier {
-            found = Some(*entry);
-        }
-    }
-    found
+    entries
+        .iter()
+        .filter(|entry| entry.subject == subject && entry.from_day <= day)
+        .max_by_key(|entry| entry.from_day)
+        .copied()
 }

@@ -1,5 +1,6 @@
 // The second calculation's own calendar. Days are counted on from Saturday, 1 January 2000, which is day number 0.
-use crate::plain::{Answer, PlainMonth, RuleKind, refused};
+use crate::plain::{PlainMonth, Refused, RuleKind, number_of};
+use std::array;
 
 // Yes or no for each hour of 31 days; the days that a month lacks have no hour.
 pub type HourTable = [[bool; 24]; 31];
@@ -22,17 +23,19 @@ pub fn days_in(year: u32, month: u32) -> u32 {
     }
 }
 
+// The days of the first so many months of a year.
+fn days_of_months(year: u32, months: u32) -> u32 {
+    (1..=months).fold(0, |days: u32, month| {
+        days.saturating_add(days_in(year, month))
+    })
+}
+
 pub fn first_day(year: u32, month: u32) -> u32 {
-    let mut number: u32 = 0;
-    for earlier in 2000..year {
-        for each in 1..=12 {
-            number = number.saturating_add(days_in(earlier, each));
-        }
-    }
-    for earlier in 1..month {
-        number = number.saturating_add(days_in(year, earlier));
-    }
-    number
+    (2000..year)
+        .fold(0, |days: u32, earlier| {
+            days.saturating_add(days_of_months(earlier, 12))
+        })
+        .saturating_add(days_of_months(year, month.saturating_sub(1)))
 }
 
 // 1 is Monday and 7 is Sunday.
@@ -40,90 +43,75 @@ fn next_weekday(weekday: u32) -> u32 {
     if weekday >= SUNDAY { 1 } else { weekday + 1 }
 }
 
+fn weekday_after(weekday: u32, days: u32) -> u32 {
+    (0..days).fold(weekday, |weekday, _| next_weekday(weekday))
+}
+
 fn weekday_of(day_number: u32) -> u32 {
-    let mut weekday = SATURDAY;
-    for _ in 0..day_number {
-        weekday = next_weekday(weekday);
-    }
-    weekday
+    weekday_after(SATURDAY, day_number)
 }
 
 // Bit 0 stands for day 1.
 fn is_marked(mask: u32, day: u32) -> bool {
-    1 <= day && day <= 32 && mask >> (day - 1) & 1 == 1
+    (1..=32).contains(&day) && mask >> (day - 1) & 1 == 1
 }
 
 // Making a month: 1 for a year or month out of range, 2 for a mark on a day that the month lacks.
-pub fn judge_month(month: PlainMonth) -> Answer {
-    if month.year < 2000 || month.year > 2099 || month.month < 1 || month.month > 12 {
-        return refused(1);
+pub fn judge_month(month: PlainMonth) -> Result<(), Refused> {
+    if !(2000..=2099).contains(&month.year) || !(1..=12).contains(&month.month) {
+        return Err(Refused::of(1));
     }
-    for day in 1..=32 {
-        let marked = is_marked(month.holidays, day) || is_marked(month.summer, day);
-        if marked && day > days_in(month.year, month.month) {
-            return refused(2);
-        }
+    let days = days_in(month.year, month.month);
+    let is_marked_beyond = (1..=32).any(|day| {
+        day > days && (is_marked(month.holidays, day) || is_marked(month.summer, day))
+    });
+    if is_marked_beyond {
+        return Err(Refused::of(2));
     }
-    Answer::Number(0)
+    Ok(())
+}
+
+// The hours of each day of a month, worked out by the day.
+pub(crate) fn table_of<F: Fn(u32) -> [bool; 24]>(month: PlainMonth, hours_of: F) -> HourTable
+    requires { F.IsAlwaysCallable hours_of }
+{
+    let mut table = NO_HOURS;
+    for (row, day) in table.iter_mut().zip(1..=days_in(month.year, month.month)) {
+        *row = hours_of(day);
+    }
+    table
 }
 
 // The hours 8 to 19, or 7 to 18 where daylight saving holds.
 fn working_hours(summer: bool) -> [bool; 24] {
-    let mut row = [false; 24];
-    for h in 0..24 {
-        let hour = h + 1;
-        row[h] = if summer {
-            7 <= hour && hour <= 18
-        } else {
-            8 <= hour && hour <= 19
-        };
-    }
-    row
+    let (first, last) = if summer { (7, 18) } else { (8, 19) };
+    array::from_fn(|i| (first..=last).contains(&number_of(i)))
 }
 
 // Monday to Friday without a holiday mark.
 fn peak_period(month: PlainMonth) -> HourTable {
-    let mut table = NO_HOURS;
-    let mut weekday = weekday_of(first_day(month.year, month.month));
-    for d in 0..31 {
-        let day = d as u32 + 1;
-        let in_month = day <= days_in(month.year, month.month);
-        if in_month && weekday <= FRIDAY && !is_marked(month.holidays, day) {
-            table[d] = working_hours(is_marked(month.summer, day));
+    let first = weekday_of(first_day(month.year, month.month));
+    table_of(month, |day| {
+        let weekday = weekday_after(first, day.saturating_sub(1));
+        if weekday <= FRIDAY && !is_marked(month.holidays, day) {
+            working_hours(is_marked(month.summer, day))
+        } else {
+            [false; 24]
         }
-        weekday = next_weekday(weekday);
-    }
-    table
+    })
 }
 
 pub fn whole_month(month: PlainMonth) -> HourTable {
-    let mut table = NO_HOURS;
-    for d in 0..31 {
-        if d as u32 + 1 <= days_in(month.year, month.month) {
-            table[d] = [true; 24];
-        }
-    }
-    table
+    table_of(month, |_| [true; 24])
 }
 
 // The hours of a day whose number and the day's together are a multiple of 3.
 fn thirds_of(day: u32) -> [bool; 24] {
-    let mut row = [false; 24];
-    for h in 0..24 {
-        row[h] = (day % 3 + h as u32 + 1) % 3 == 0;
-    }
-    row
+    array::from_fn(|i| number_of(i).saturating_add(day % 3) % 3 == 0)
 }
 
 fn every_third_hour(month: PlainMonth) -> HourTable {
-    let mut table = NO_HOURS;
-    for d in 0..31 {
-        let day = d as u32 + 1;
-        if day <= days_in(month.year, month.month) {
-            table[d] = thirds_of(day);
-        }
-    }
-    table
+    table_of(month, thirds_of)
 }
 
 // The hours that stand for the peak period.

@@ -1,37 +1,25 @@
 // What is due: determinants and charges, worked out from the accepted sheets and entries.
 use super::book::{Book, latest_of};
-use super::days::{HourTable, admitted_hours, whole_month};
-use super::peaks::{DemandTable, NO_DEMAND, Peak, greatest, quantity_at};
-use crate::plain::{PlainAccount, PlainCall, PlainPoint, PlainReading, Topic, put};
+use super::days::{HourTable, admitted_hours, table_of, whole_month};
+use super::peaks::{DemandTable, NO_DEMAND, greatest, quantity_at};
+use crate::plain::{
+    PlainAccount, PlainCall, PlainPeak, PlainPoint, Topic, number_of, numbered_mut, put,
+};
 
-// A point's charge: who is on record on the last day, the amount, and the determinant.
+// A point's charge: the account of those who are on record on the last day, the amount, and the determinant.
 #[derive(Clone, Copy)]
 pub struct PlainDue {
-    pub point: u32,
-    pub charge: u32,
-    pub customer: u32,
-    pub transmitter: u32,
+    pub account: PlainAccount,
     pub cents: i64,
-    pub determinant: Peak,
+    pub determinant: PlainPeak,
 }
 
-// An injection has no demand.
-fn demands_of(hours: &[PlainReading; 24]) -> [u64; 24] {
-    let mut row = [0; 24];
-    for h in 0..24 {
-        if !hours[h].injected {
-            row[h] = u64::from(hours[h].quantity);
+fn add_demands(sums: &mut DemandTable, table: &DemandTable) {
+    for (row, demands) in sums.iter_mut().zip(table.iter()) {
+        for (sum, demand) in row.iter_mut().zip(demands.iter()) {
+            *sum = sum.saturating_add(*demand);
         }
     }
-    row
-}
-
-fn sum_of(a: &[u64; 24], b: &[u64; 24]) -> [u64; 24] {
-    let mut row = [0; 24];
-    for h in 0..24 {
-        row[h] = a[h].saturating_add(b[h]);
-    }
-    row
 }
 
 // (determinant × rate + 5,000,000) / 10,000,000, remainder dropped.
@@ -57,12 +45,11 @@ impl Book {
     fn demands(&self, point: u32) -> DemandTable {
         let mut table = NO_DEMAND;
         for call in self.history.as_slice() {
-            if let PlainCall::Post(sheet) = *call
+            if let PlainCall::Post(sheet) = call
                 && sheet.point == point
-                && 1 <= sheet.day
-                && sheet.day <= 31
+                && let Some(row) = numbered_mut(&mut table, sheet.day)
             {
-                table[(sheet.day - 1) as usize] = demands_of(&sheet.hours);
+                *row = sheet.hours.map(|reading| reading.demand());
             }
         }
         table
@@ -73,80 +60,81 @@ impl Book {
         let mut sums = NO_DEMAND;
         for (i, point) in self.points.iter().enumerate() {
             if point.is_network() {
-                let table = self.demands(number_of(i));
-                for d in 0..31 {
-                    sums[d] = sum_of(&sums[d], &table[d]);
-                }
+                add_demands(&mut sums, &self.demands(number_of(i)));
             }
         }
         sums
     }
 
     // The greatest sum of the network points' demands, over the whole month.
-    pub fn system_peak(&self) -> Peak {
+    pub fn system_peak(&self) -> PlainPeak {
         greatest(&self.network_demands(), &whole_month(self.month))
     }
 
     // The hours of the days on which a point has service on record.
     fn hours_in_service(&self, point: u32) -> HourTable {
-        let mut table = whole_month(self.month);
         let entries = self.entries(Topic::Service);
         let first = self.first_day();
-        for d in 0..31 {
-            let day = first.saturating_add(d as u32);
-            match latest_of(entries.as_slice(), point, day) {
-                Some(entry) if entry.item[0] == 1 => {}
-                _ => table[d] = [false; 24],
-            }
-        }
-        table
+        table_of(self.month, |day| {
+            let day = first.saturating_add(day).saturating_sub(1);
+            let entry = latest_of(entries.as_slice(), point, day);
+            [entry.is_some_and(|entry| entry.item[0] == 1); 24]
+        })
     }
 
     // 100 × C at the system peak if that is at least 85 × Q, else 85 × Q at Q's own hour.
-    fn network_determinant(&self, point: u32, system_peak: Peak, admitted: &HourTable) -> Peak {
+    fn network_determinant(
+        &self,
+        point: u32,
+        system_peak: PlainPeak,
+        admitted: &HourTable,
+    ) -> PlainPeak {
         let table = self.demands(point);
         let at_peak = quantity_at(&table, system_peak.day, system_peak.hour).saturating_mul(100);
         let own = greatest(&table, admitted);
         let share = own.quantity.saturating_mul(85);
         if at_peak >= share {
-            Peak {
+            PlainPeak {
                 quantity: at_peak,
-                day: system_peak.day,
-                hour: system_peak.hour,
+                ..system_peak
             }
         } else {
-            Peak {
+            PlainPeak {
                 quantity: share,
-                day: own.day,
-                hour: own.hour,
+                ..own
             }
         }
     }
 
     // 100 × the greatest demand over the hours in service.
-    fn connection_determinant(&self, point: u32) -> Peak {
+    fn connection_determinant(&self, point: u32) -> PlainPeak {
         let peak = greatest(&self.demands(point), &self.hours_in_service(point));
-        Peak {
+        PlainPeak {
             quantity: peak.quantity.saturating_mul(100),
-            day: peak.day,
-            hour: peak.hour,
+            ..peak
         }
     }
 
-    // The party of a point on the last day, 0 where there is none.
-    fn party(&self, topic: Topic, point: u32) -> u32 {
-        match self.on_record(topic, point, self.last_day()) {
-            Some(entry) => entry.item[0],
-            None => 0,
+    // What is on record on the last day, zeros where there is nothing.
+    fn item(&self, topic: Topic, subject: u32) -> [u32; 3] {
+        self.on_record(topic, subject, self.last_day())
+            .map_or([0; 3], |entry| entry.item)
+    }
+
+    // The account of a point's charge and those who are on record.
+    fn account(&self, point: u32, charge: u32) -> PlainAccount {
+        let [customer, _, _] = self.item(Topic::Customer, point);
+        let [transmitter, _, _] = self.item(Topic::Transmitter, point);
+        PlainAccount {
+            point,
+            charge,
+            customer,
+            transmitter,
         }
     }
 
-    // The rate of a charge on the last day.
     fn rate(&self, charge: u32) -> u32 {
-        let Some(entry) = self.on_record(Topic::Rates, 0, self.last_day()) else {
-            return 0;
-        };
-        let [network, line, transformation] = entry.item;
+        let [network, line, transformation] = self.item(Topic::Rates, 0);
         match charge {
             650 => network,
             651 => line,
@@ -154,7 +142,7 @@ impl Book {
         }
     }
 
-    fn determinant(&self, point: u32, system_peak: Peak, admitted: &HourTable) -> Peak {
+    fn determinant(&self, point: u32, system_peak: PlainPeak, admitted: &HourTable) -> PlainPeak {
         match self.point(point) {
             Some(kind) if kind.is_network() => {
                 self.network_determinant(point, system_peak, admitted)
@@ -168,16 +156,13 @@ impl Book {
         let mut dues = Vec::new(self.heap);
         let system_peak = self.system_peak();
         let admitted = admitted_hours(self.brought.rule, self.month);
-        for (i, point) in self.points.as_slice().iter().enumerate() {
+        for (i, point) in self.points.iter().enumerate() {
             let number = number_of(i);
             let determinant = self.determinant(number, system_peak, &admitted);
             for charge in 650..=652 {
                 if has_charge(*point, charge) {
                     let due = PlainDue {
-                        point: number,
-                        charge,
-                        customer: self.party(Topic::Customer, number),
-                        transmitter: self.party(Topic::Transmitter, number),
+                        account: self.account(number, charge),
                         cents: cents_of(determinant.quantity, self.rate(charge)),
                         determinant,
                     };
@@ -191,19 +176,7 @@ impl Book {
 
 // What an account is due: the charge if both its parties are the ones on record, else nothing.
 pub fn due_of(dues: &[PlainDue], account: PlainAccount) -> i64 {
-    for due in dues {
-        if due.point == account.point
-            && due.charge == account.charge
-            && due.customer == account.customer
-            && due.transmitter == account.transmitter
-        {
-            return due.cents;
-        }
-    }
-    0
-}
-
-// Points are numbered from 1.
-pub fn number_of(index: usize) -> u32 {
-    u32::try_from(index).unwrap_or(u32::MAX).saturating_add(1)
+    dues.iter()
+        .find(|due| due.account == account)
+        .map_or(0, |due| due.cents)
 }

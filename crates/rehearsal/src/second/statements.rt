@@ -1,59 +1,26 @@
 // Statements: whether one may be issued, and the lines that it writes.
 use super::book::Book;
-use super::owed::{PlainDue, number_of};
-use super::soundness::{LINE_LIMIT, LINES_LIMIT, ledger_is_sound, shelf_is_sound};
+use super::owed::PlainDue;
+use super::soundness::{LINES_LIMIT, is_within_limit, ledger_is_sound, shelf_is_sound};
 use crate::plain::{
-    Answer, PlainAccount, PlainCall, PlainLine, Topic, counted, in_use, put, put_all, refused,
-    refused_at,
+    PlainAccount, PlainCall, PlainLine, PlainPeak, Refused, Topic, front, number_of, numbered_mut,
+    put, put_all,
 };
-
-impl PlainLine {
-    fn is_on(&self, account: PlainAccount) -> bool {
-        self.point == account.point
-            && self.charge == account.charge
-            && self.customer == account.customer
-            && self.transmitter == account.transmitter
-    }
-
-    fn account(&self) -> PlainAccount {
-        PlainAccount {
-            point: self.point,
-            charge: self.charge,
-            customer: self.customer,
-            transmitter: self.transmitter,
-        }
-    }
-}
 
 impl PlainDue {
     // What brings an account of the due's point and charge from its total to what it is due: the amount for the parties on
     // record, nothing for others.
     fn line(&self, rank: u32, account: PlainAccount, total: i64) -> PlainLine {
-        let on_record = account.customer == self.customer
-            && account.transmitter == self.transmitter;
+        let (cents, determinant) = if account == self.account {
+            (self.cents, self.determinant)
+        } else {
+            (0, PlainPeak::default())
+        };
         PlainLine {
             rank,
-            point: account.point,
-            charge: account.charge,
-            customer: account.customer,
-            transmitter: account.transmitter,
-            cents: (if on_record { self.cents } else { 0 }).saturating_sub(total),
-            quantity: if on_record {
-                self.determinant.quantity
-            } else {
-                0
-            },
-            day: if on_record { self.determinant.day } else { 0 },
-            hour: if on_record { self.determinant.hour } else { 0 },
-        }
-    }
-
-    fn account(&self) -> PlainAccount {
-        PlainAccount {
-            point: self.point,
-            charge: self.charge,
-            customer: self.customer,
-            transmitter: self.transmitter,
+            account,
+            cents: cents.saturating_sub(total),
+            determinant,
         }
     }
 }
@@ -68,118 +35,109 @@ impl Book {
         }
     }
 
-    pub fn has_sound_ledger(&self) -> bool {
-        ledger_is_sound(&self.brought.ledger)
+    // 17 where the ledger that was brought is unsound.
+    pub fn judge_ledger(&self) -> Result<(), Refused> {
+        if ledger_is_sound(&self.brought.ledger) {
+            Ok(())
+        } else {
+            Err(Refused::of(17))
+        }
     }
 
     pub fn has_sound_histories(&self) -> bool {
-        for topic in [
+        [
             Topic::Customer,
             Topic::Transmitter,
             Topic::Service,
             Topic::Rates,
-        ] {
-            if !shelf_is_sound(topic, self.shelf(topic)) {
-                return false;
-            }
-        }
-        true
+        ]
+        .iter()
+        .all(|topic| shelf_is_sound(*topic, self.shelf(*topic)))
     }
 
     // The first day of a point that has no sheet.
     fn missing_day(&self, point: u32) -> Option<u32> {
         let mut posted = [false; 31];
         for call in self.history.as_slice() {
-            if let PlainCall::Post(sheet) = *call
+            if let PlainCall::Post(sheet) = call
                 && sheet.point == point
-                && 1 <= sheet.day
-                && sheet.day <= 31
+                && let Some(is_posted) = numbered_mut(&mut posted, sheet.day)
             {
-                posted[(sheet.day - 1) as usize] = true;
+                *is_posted = true;
             }
         }
-        for d in 0..31 {
-            let day = d as u32 + 1;
-            if day <= self.days() && !posted[d] {
-                return Some(day);
-            }
-        }
-        None
+        posted
+            .iter()
+            .take(self.days() as usize)
+            .position(|is_posted| !*is_posted)
+            .map(number_of)
     }
 
     // 15 for the first missing sheet, by point and day.
-    fn judge_sheets(&self) -> Option<Answer> {
-        for i in 0..self.points.len() {
-            let point = number_of(i);
+    fn judge_sheets(&self) -> Result<(), Refused> {
+        for point in 1..=self.count() {
             if let Some(day) = self.missing_day(point) {
-                return Some(refused_at(15, u64::from(point), u64::from(day)));
+                return Err(Refused::at(15, u64::from(point), u64::from(day)));
             }
         }
-        None
+        Ok(())
     }
 
-    // 16 where nothing is on record on the last day: rates, then by point customer and transmitter.
-    fn judge_records(&self) -> Option<Answer> {
-        let last_day = self.last_day();
-        if self.on_record(Topic::Rates, 0, last_day).is_none() {
-            return Some(refused_at(16, 0, 0));
+    // 16 where nothing is on record of a subject on the last day.
+    fn judge_record(&self, topic: Topic, subject: u32) -> Result<(), Refused> {
+        match self.on_record(topic, subject, self.last_day()) {
+            Some(_) => Ok(()),
+            None => Err(Refused::at(16, u64::from(subject), 0)),
         }
-        for i in 0..self.points.len() {
-            let point = number_of(i);
-            let customer = self.on_record(Topic::Customer, point, last_day);
-            let transmitter = self.on_record(Topic::Transmitter, point, last_day);
-            if customer.is_none() || transmitter.is_none() {
-                return Some(refused_at(16, u64::from(point), 0));
-            }
-        }
-        None
     }
 
-    fn judge_issue(&self, rank: u32) -> Option<Answer> {
+    // Rates, then by point customer and transmitter.
+    fn judge_records(&self) -> Result<(), Refused> {
+        self.judge_record(Topic::Rates, 0)?;
+        for point in 1..=self.count() {
+            self.judge_record(Topic::Customer, point)?;
+            self.judge_record(Topic::Transmitter, point)?;
+        }
+        Ok(())
+    }
+
+    fn judge_issue(&self, rank: u32) -> Result<(), Refused> {
         if !self.is_in_turn(rank) {
-            return Some(refused(14));
+            return Err(Refused::of(14));
         }
-        if !self.store_fits() {
-            return Some(refused(5));
+        self.judge_fit()?;
+        self.judge_ledger()?;
+        if !self.has_sound_histories() {
+            return Err(Refused::of(17));
         }
-        if !self.has_sound_ledger() || !self.has_sound_histories() {
-            return Some(refused(17));
-        }
-        match self.judge_sheets() {
-            Some(missing) => Some(missing),
-            None => self.judge_records(),
-        }
+        self.judge_sheets()?;
+        self.judge_records()
     }
 
-    // Credits and totals are refused with 17 over an unsound ledger.
-    pub fn judge_amount(&self, cents: i64) -> Answer {
-        if self.has_sound_ledger() {
-            Answer::Number(cents)
-        } else {
-            refused(17)
-        }
+    // Credits and totals are refused over an unsound ledger.
+    pub fn judge_amount(&self, cents: i64) -> Result<i64, Refused> {
+        self.judge_ledger()?;
+        Ok(cents)
     }
 
     // The sum of the cents of an account's lines.
     pub fn total(&self, account: PlainAccount) -> i64 {
-        let mut sum: i64 = 0;
-        for line in self.lines.as_slice() {
-            if line.is_on(account) {
-                sum = sum.saturating_add(line.cents);
-            }
-        }
-        sum
+        self.lines
+            .iter()
+            .filter(|line| line.account == account)
+            .fold(0, |sum: i64, line| sum.saturating_add(line.cents))
     }
 
     // The sum of the cents of a statement's lines for a charge and a transmitter.
     pub fn credit(&self, rank: u32, charge: u32, transmitter: u32) -> i64 {
-        let mut sum: i64 = 0;
-        for line in self.lines.as_slice() {
-            if line.rank == rank && line.charge == charge && line.transmitter == transmitter {
-                sum = sum.saturating_add(line.cents);
-            }
-        }
-        sum
+        self.lines
+            .iter()
+            .filter(|line| {
+                line.rank == rank
+                    && line.account.charge == charge
+                    && line.account.transmitter == transmitter
+            })
+            .fold(0, |sum: i64, line| sum.saturating_add(line.cents))
     }
 
     // The lines of one due: for the accounts in the ledger in the order of their first line, then for the one on record. An account
@@ -187,14 +145,16 @@ impl Book {
     fn write_due(&self, lines: &mut Vec<PlainLine>, rank: u32, due: &PlainDue) {
         let written = self.lines.as_slice();
         for (i, line) in written.iter().enumerate() {
-            let account = line.account();
-            let is_first = !is_among(in_use(written, i), account);
-            if account.point == due.point && account.charge == due.charge && is_first {
+            let account = line.account;
+            if account.point == due.account.point
+                && account.charge == due.account.charge
+                && !is_among(front(written, i), account)
+            {
                 put_line(lines, due.line(rank, account, self.total(account)));
             }
         }
-        if !is_among(written, due.account()) {
-            put_line(lines, due.line(rank, due.account(), 0));
+        if !is_among(written, due.account) {
+            put_line(lines, due.line(rank, due.account, 0));
         }
     }
 
@@ -207,44 +167,28 @@ impl Book {
     }
 
     // Issues a statement. All lines are tested, 19 and then 18, before any is written.
-    pub fn issue(&mut self, rank: u32) -> Answer {
-        if let Some(refusal) = self.judge_issue(rank) {
-            return refusal;
-        }
+    pub fn issue(&mut self, rank: u32) -> Result<usize, Refused> {
+        self.judge_issue(rank)?;
         let lines = self.statement_lines(rank);
-        if has_large_amount(lines.as_slice()) {
-            return refused(19);
+        if !lines.iter().all(|line| is_within_limit(line.cents)) {
+            return Err(Refused::of(19));
         }
         let after = self.lines.len().saturating_add(lines.len());
         if after > self.brought.ledger.memory.len() || after > LINES_LIMIT {
-            return refused(18);
+            return Err(Refused::of(18));
         }
         put_all(&mut self.lines, lines.as_slice());
         self.last = Some(rank);
-        counted(lines.len())
+        Ok(lines.len())
     }
 }
 
 fn is_among(lines: &[PlainLine], account: PlainAccount) -> bool {
-    for line in lines {
-        if line.is_on(account) {
-            return true;
-        }
-    }
-    false
+    lines.iter().any(|line| line.account == account)
 }
 
 fn put_line(lines: &mut Vec<PlainLine>, line: PlainLine) {
     if line.cents != 0 {
         put(lines, line);
     }
-}
-
-fn has_large_amount(lines: &[PlainLine]) -> bool {
-    for line in lines {
-        if line.cents > LINE_LIMIT || line.cents < -LINE_LIMIT {
-            return true;
-        }
-    }
-    false
 }

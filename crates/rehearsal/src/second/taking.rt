@@ -1,131 +1,118 @@
 // The second calculation's answers to calls, with the refusals in their order.
 use super::book::Book;
-use super::soundness::shelf_is_sound;
+use super::soundness::{is_party, shelf_is_sound};
 use crate::plain::{
-    Answer, PlainCall, PlainEntry, PlainSheet, StorePlan, Topic, in_use, put, refused, refused_at,
+    PlainCall, PlainEntry, PlainSheet, Refused, StorePlan, Topic, front, number_of, put,
 };
 
 // A store's check: at most 400 points, 28 to 31 days, and memory for a sheet of each point and day.
-pub fn judge_store(store: StorePlan) -> Answer {
-    let per_sheet: u64 = if store.rows { 1 } else { 24 };
-    if store.points > 400 || store.days < 28 || store.days > 31 {
-        return refused(5);
+pub fn judge_store(store: StorePlan) -> Result<(), Refused> {
+    if store.points > 400 || !(28..=31).contains(&store.days) {
+        return Err(Refused::of(5));
     }
-    let needed = u64::from(store.points) * u64::from(store.days) * per_sheet;
-    if needed > store.places as u64 {
-        return refused(5);
+    let sheets = u64::from(store.points) * u64::from(store.days);
+    if sheets.saturating_mul(u64::from(store.kind.places_per_sheet())) > store.places as u64 {
+        return Err(Refused::of(5));
     }
-    Answer::Number(0)
+    Ok(())
 }
 
 // Points of 1 to `points`, days of 1 to `days`, and quantities within the limit, in hour order.
-pub fn judge_sheet(sheet: &PlainSheet, points: usize, days: u32) -> Answer {
-    if sheet.point < 1 || sheet.point as usize > points {
-        return refused(6);
+pub fn judge_sheet(sheet: &PlainSheet, points: u32, days: u32) -> Result<(), Refused> {
+    if !(1..=points).contains(&sheet.point) {
+        return Err(Refused::of(6));
     }
-    if sheet.day < 1 || sheet.day > days {
-        return refused(7);
+    if !(1..=days).contains(&sheet.day) {
+        return Err(Refused::of(7));
     }
-    for h in 0..24 {
-        if sheet.hours[h].quantity > 99_999_999 {
-            return refused_at(8, h as u64 + 1, 0);
-        }
+    let too_large = sheet
+        .hours
+        .iter()
+        .position(|reading| reading.quantity() > 99_999_999);
+    match too_large {
+        Some(index) => Err(Refused::at(8, u64::from(number_of(index)), 0)),
+        None => Ok(()),
     }
-    Answer::Number(0)
 }
 
 impl Book {
     // A store that its check refuses is one of no points and no days.
-    pub fn store_fits(&self) -> bool {
+    pub fn judge_fit(&self) -> Result<(), Refused> {
         let store = self.brought.store;
-        judge_store(store) == Answer::Number(0)
-            && store.points as usize == self.points.len()
-            && store.days == self.days()
+        judge_store(store)?;
+        if (store.points, store.days) != (self.count(), self.days()) {
+            return Err(Refused::of(5));
+        }
+        Ok(())
     }
 
-    fn judge_post(&self, sheet: &PlainSheet) -> Answer {
-        if !self.store_fits() {
-            return refused(5);
-        }
-        judge_sheet(sheet, self.points.len(), self.days())
+    fn judge_post(&self, sheet: &PlainSheet) -> Result<(), Refused> {
+        self.judge_fit()?;
+        judge_sheet(sheet, self.count(), self.days())
     }
 
     // What is wrong with the point that an entry is for.
-    fn judge_subject(&self, topic: Topic, subject: u32) -> Answer {
+    fn judge_subject(&self, topic: Topic, subject: u32) -> Result<(), Refused> {
         if topic == Topic::Rates {
-            return Answer::Number(0);
+            return Ok(());
         }
-        match self.point(subject) {
-            None => refused(6),
-            Some(point) if topic == Topic::Service && point.is_network() => refused(13),
-            Some(_) => Answer::Number(0),
+        let point = self.point(subject).ok_or(Refused::of(6))?;
+        if topic == Topic::Service && point.is_network() {
+            return Err(Refused::of(13));
         }
+        Ok(())
     }
 
-    fn judge_entry(&self, topic: Topic, entry: PlainEntry) -> Answer {
-        if !shelf_is_sound(topic, self.shelf(topic)) {
-            return refused(17);
+    fn judge_entry(&self, topic: Topic, entry: PlainEntry) -> Result<(), Refused> {
+        let shelf = self.shelf(topic);
+        if !shelf_is_sound(topic, shelf) {
+            return Err(Refused::of(17));
         }
-        let subject = self.judge_subject(topic, entry.subject);
-        if subject != Answer::Number(0) {
-            return subject;
-        }
+        self.judge_subject(topic, entry.subject)?;
         if entry.from_day > 36_524 {
-            return refused(9);
+            return Err(Refused::of(9));
         }
-        let item = judge_item(topic, entry.item);
-        if item != Answer::Number(0) {
-            return item;
-        }
+        judge_item(topic, entry.item)?;
         let entries = self.entries(topic);
-        let is_new = !is_among(entries.as_slice(), entry);
-        if is_new && count_distinct(entries.as_slice()) >= self.shelf(topic).memory.len() {
-            return refused(12);
+        let is_new = !is_among(entries.as_slice(), &entry);
+        if is_new && count_distinct(entries.as_slice()) >= shelf.memory.len() {
+            return Err(Refused::of(12));
         }
-        Answer::Number(0)
+        Ok(())
     }
 
-    // Answers a call, and keeps it if it is accepted.
-    pub fn take(&mut self, call: PlainCall) -> Answer {
-        let answer = match call {
-            PlainCall::Post(sheet) => self.judge_post(&sheet),
-            PlainCall::Enter(topic, entry) => self.judge_entry(topic, entry),
-            PlainCall::Issue(rank) => self.issue(rank),
+    // Answers how many lines a call wrote, and keeps the call if it is accepted.
+    pub fn take(&mut self, call: PlainCall) -> Result<usize, Refused> {
+        let lines = match call {
+            PlainCall::Post(sheet) => self.judge_post(&sheet).map(|_| 0)?,
+            PlainCall::Enter(topic, entry) => self.judge_entry(topic, entry).map(|_| 0)?,
+            PlainCall::Issue(rank) => self.issue(rank)?,
         };
-        if let Answer::Number(_) = answer {
-            put(&mut self.history, call);
-        }
-        answer
+        put(&mut self.history, call);
+        Ok(lines)
     }
 }
 
 // Whether one of the entries is for the same subject and from-day.
-fn is_among(entries: &[PlainEntry], entry: PlainEntry) -> bool {
-    for other in entries {
-        if other.subject == entry.subject && other.from_day == entry.from_day {
-            return true;
-        }
-    }
-    false
+fn is_among(entries: &[PlainEntry], entry: &PlainEntry) -> bool {
+    entries.iter().any(|other| other.place() == entry.place())
 }
 
 // How many entries there are when each takes the place of an earlier one for its subject and from-day.
 fn count_distinct(entries: &[PlainEntry]) -> usize {
-    let mut count: usize = 0;
-    for (i, entry) in entries.iter().enumerate() {
-        if !is_among(in_use(entries, i), *entry) {
-            count = count.saturating_add(1);
-        }
-    }
-    count
+    entries
+        .iter()
+        .enumerate()
+        .filter(|(i, entry)| !is_among(front(entries, *i), entry))
+        .count()
 }
 
 // Parties are 1 to 999,999,999, else 10; rates at most 10,000,000, else 11.
-pub fn judge_item(topic: Topic, item: [u32; 3]) -> Answer {
-    let [first, second, third] = item;
+pub fn judge_item(topic: Topic, item: [u32; 3]) -> Result<(), Refused> {
+    let [party, _, _] = item;
     match topic {
-        Topic::Customer | Topic::Transmitter if first < 1 || first > 999_999_999 => refused(10),
-        Topic::Rates if first.max(second).max(third) > 10_000_000 => refused(11),
-        _ => Answer::Number(0),
+        Topic::Customer | Topic::Transmitter if !is_party(party) => Err(Refused::of(10)),
+        Topic::Rates if item.iter().any(|rate| *rate > 10_000_000) => Err(Refused::of(11)),
+        _ => Ok(()),
     }
 }

@@ -1,111 +1,104 @@
 // Texts of the second calculation: listings and lines of sheet files.
 use super::book::Book;
 use super::taking::judge_sheet;
-use crate::plain::{Answer, PlainLine, PlainSheet, counted, put, put_all, refused};
+use crate::plain::{PlainAccount, PlainLine, PlainPeak, PlainReading, PlainSheet, Refused};
+use std::alloc::Global;
+use std::fmt;
 
-const HEADER: &[u8] = b"type|point|charge|customer|transmitter|cents|quantity|day|hour\n";
+const HEADER: &str = "type|point|charge|customer|transmitter|cents|quantity|day|hour\n";
 
-// The fewest digits.
-fn push_number(text: &mut Vec<u8>, number: u64) {
-    let mut digits = [b'0'; 20];
-    let mut rest = number;
-    for i in 0..20 {
-        digits[19 - i] = b'0' + (rest % 10) as u8;
-        rest /= 10;
+fn letters_of(rank: u32) -> &'static str {
+    match rank {
+        0 => "P",
+        1 => "F",
+        2 => "R1",
+        3 => "R2",
+        4 => "R3",
+        5 => "R4",
+        6 => "R5",
+        7 => "R6",
+        _ => "RF",
     }
-    let mut begun = false;
-    for i in 0..20 {
-        begun = begun || digits[i] != b'0' || i == 19;
-        if begun {
-            put(text, digits[i]);
+}
+
+// A line of a listing.
+impl fmt::Display for PlainLine {
+    fn fmt<W: fmt::Write>(&self, f: &mut fmt::Formatter<W>) -> fmt::Result {
+        let letters = letters_of(self.rank);
+        let PlainAccount {
+            point,
+            charge,
+            customer,
+            transmitter,
+        } = self.account;
+        let cents = self.cents;
+        let PlainPeak {
+            quantity,
+            day,
+            hour,
+        } = self.determinant;
+        write!(f, "{letters}|{point}|{charge}|{customer}|{transmitter}")?;
+        write!(f, "|{cents}|{quantity}|{day}|{hour}")
+    }
+}
+
+impl fmt::Display for PlainReading {
+    fn fmt<W: fmt::Write>(&self, f: &mut fmt::Formatter<W>) -> fmt::Result {
+        match *self {
+            PlainReading::Withdrawal(quantity) => write!(f, "W{quantity}"),
+            PlainReading::Injection(quantity) => write!(f, "I{quantity}"),
         }
     }
 }
 
-fn push_value(text: &mut Vec<u8>, number: u64) {
-    put(text, b'|');
-    push_number(text, number);
-}
-
-fn push_cents(text: &mut Vec<u8>, cents: i64) {
-    put(text, b'|');
-    if cents < 0 {
-        put(text, b'-');
+// A line of a sheet file.
+impl fmt::Display for PlainSheet {
+    fn fmt<W: fmt::Write>(&self, f: &mut fmt::Formatter<W>) -> fmt::Result {
+        let point = self.point;
+        let day = self.day;
+        write!(f, "{point}|{day}")?;
+        for reading in self.hours {
+            write!(f, "|{reading}")?;
+        }
+        Ok(())
     }
-    push_number(text, cents.unsigned_abs());
-}
-
-fn letters_of(rank: u32) -> &'static [u8] {
-    match rank {
-        0 => b"P",
-        1 => b"F",
-        2 => b"R1",
-        3 => b"R2",
-        4 => b"R3",
-        5 => b"R4",
-        6 => b"R5",
-        7 => b"R6",
-        _ => b"RF",
-    }
-}
-
-fn push_line(text: &mut Vec<u8>, line: &PlainLine) {
-    put_all(text, letters_of(line.rank));
-    for number in [line.point, line.charge, line.customer, line.transmitter] {
-        push_value(text, u64::from(number));
-    }
-    push_cents(text, line.cents);
-    push_value(text, line.quantity);
-    push_value(text, u64::from(line.day));
-    push_value(text, u64::from(line.hour));
-    put(text, b'\n');
 }
 
 impl Book {
     // The header and the ledger's lines in order.
-    pub fn listing(&self) -> Vec<u8> {
-        let mut text = Vec::new(self.heap);
-        put_all(&mut text, HEADER);
+    pub fn listing(&self) -> String {
+        let mut text = String::new(self.heap);
+        let _ = text.push_str(HEADER);
         for line in self.lines.as_slice() {
-            push_line(&mut text, line);
+            let _ = writeln!(text, "{line}");
         }
         text
     }
 
     // What writing the listing answers: 17 for an unsound ledger, then 22 where the text memory is too short.
-    pub fn judge_listing(&self, length: usize, places: usize) -> Answer {
-        if !self.has_sound_ledger() {
-            return refused(17);
-        }
+    pub fn judge_listing(&self, length: usize, places: usize) -> Result<usize, Refused> {
+        self.judge_ledger()?;
         judge_text(length, places)
     }
 }
 
 // The length of a text, or 22 where there are too few places for it.
-fn judge_text(length: usize, places: usize) -> Answer {
+fn judge_text(length: usize, places: usize) -> Result<usize, Refused> {
     if length > places {
-        return refused(22);
+        return Err(Refused::of(22));
     }
-    counted(length)
+    Ok(length)
 }
 
 // A sheet as a line of a sheet file, with its byte 10.
-pub fn push_sheet(text: &mut Vec<u8>, sheet: &PlainSheet) {
-    push_number(text, u64::from(sheet.point));
-    push_value(text, u64::from(sheet.day));
-    for h in 0..24 {
-        let reading = sheet.hours[h];
-        put(text, b'|');
-        put(text, if reading.injected { b'I' } else { b'W' });
-        push_number(text, u64::from(reading.quantity));
-    }
-    put(text, b'\n');
+pub fn sheet_line(heap: Global, sheet: &PlainSheet) -> String {
+    let mut text = String::new(heap);
+    let _ = writeln!(text, "{sheet}");
+    text
 }
 
 // Writing a sheet: 6 outside points 1 to 400, 7 outside days 1 to 31, 8, then 22.
-pub fn judge_written(sheet: &PlainSheet, length: usize, places: usize) -> Answer {
-    match judge_sheet(sheet, 400, 31) {
-        Answer::Number(_) => judge_text(length, places),
-        refusal => refusal,
-    }
+pub fn judge_written(sheet: &PlainSheet, length: usize, places: usize) -> Result<usize, Refused> {
+    judge_sheet(sheet, 400, 31)?;
+    judge_text(length, places)
 }
