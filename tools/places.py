@@ -63,30 +63,36 @@ def long_parameter_lists():
     return found
 
 
+def answers():
+    """Answers to goals of the check."""
+    return places(r"^(pub )?(returns|loop|overflow|index|part|slice|requires|invariant_of|cast|the_|in_|then|else|\w+-requires)[\w-]* :", [f for f in PROOFS if f[0].endswith("Answers.antt")])
+
+
+# A count's name, what it counts, and the pattern of a place or the function that finds them.
 POINTS = [
-    ("1a", "own enums (each is read for the shape of Option or Result)", lambda: places(r"^ *(pub(\(\w+\))? )?enum ")),
-    ("1b", "let-else that only hands on None or an error", lambda: places(r"^ *let (Some|Ok)\(.*\) = .* else \{\s*return (None|Err\(.*\));\s*\};")),
-    ("1c", "arms that only hand on None or an error", lambda: places(r"^ *(Err\((\w+)\) => (return )?Err\(.*\)|None => (return )?None|Ok\((\w+)\) => Ok\(\5\)),$")),
-    ("1d", "fields that are a flag", lambda: places(r"^    (pub(\(\w+\))? )?\w+: bool,$")),
-    ("1e", "an answer that stands for yes", lambda: places(r"Answer::Number\(0\)")),
-    ("3a", "for loops over a counted range", lambda: places(r"^ *for \w+ in [^{]*\.\.[^{]*\{")),
-    ("3b", "while loops", lambda: places(r"^ *while ")),
-    ("3c", "for loops that only search", lambda: places(r"^ *for [^{]*\{\n *if [^{]*\{\n *return [^\n]*\n *\}\n *\}\n")),
-    ("3d", "for loops that only add up", lambda: places(r"^ *for [^{]*\{\n *\w+ (\+=|= \w+\.saturating_add)[^\n]*\n *\}\n")),
-    ("4a", "functions that compare field by field", lambda: places(r"fn (is_same_\w+|is_for|is_on|is_among|precedes|stands_at|stands_before|replaces)\b")),
-    ("4b", "chains of comparisons with words", lambda: places(r"if is\(text, ")),
-    ("4c", "structs made only to be printed", lambda: places(r"struct Words\(")),
+    ("1a", "own enums (each is read for the shape of Option or Result)", r"^ *(pub(\(\w+\))? )?enum "),
+    ("1b", "let-else that only hands on None or an error", r"^ *let (Some|Ok)\(.*\) = .* else \{\s*return (None|Err\(.*\));\s*\};"),
+    ("1c", "arms that only hand on None or an error", r"^ *(Err\((\w+)\) => (return )?Err\(.*\)|None => (return )?None|Ok\((\w+)\) => Ok\(\5\)),$"),
+    ("1d", "fields that are a flag", r"^    (pub(\(\w+\))? )?\w+: bool,$"),
+    ("1e", "an answer that stands for yes", r"Answer::Number\(0\)"),
+    ("3a", "for loops over a counted range", r"^ *for \w+ in [^{]*\.\.[^{]*\{"),
+    ("3b", "while loops", r"^ *while "),
+    ("3c", "for loops that only search", r"^ *for [^{]*\{\n *if [^{]*\{\n *return [^\n]*\n *\}\n *\}\n"),
+    ("3d", "for loops that only add up", r"^ *for [^{]*\{\n *\w+ (\+=|= \w+\.saturating_add)[^\n]*\n *\}\n"),
+    ("4a", "functions that compare field by field", r"fn (is_same_\w+|is_for|is_on|is_among|precedes|stands_at|stands_before|replaces)\b"),
+    ("4b", "chains of comparisons with words", r"if is\(text, "),
+    ("4c", "structs made only to be printed", r"struct Words\("),
     ("5a", "facts required word for word by three functions or more", repeated_facts),
     ("5b", "functions of six parameters or more", long_parameter_lists),
-    ("5c", "clauses that read the state off a month, or the facts off workings", lambda: places(r"(state_of S\.Readings\.meaning|facts_for R\.Readings\.meaning)")),
-    ("6a", "arrays with a count beside", lambda: places(r"^    \w+: \[\w+; \w+\],\n    \w+: usize,")),
-    ("6b", "lent slices with a count beside", lambda: places(r"^    (used: usize,\n    \w+: &'a mut \[|\w+: &'a mut \[.*\],\n    used: usize,)")),
-    ("7", "tables of functions, steps chosen by a number", lambda: places(r"\bfn\([^)]*\) ->|\[fn\b|match step\b")),
-    ("8", "answers in proofs/", lambda: places(r"^(pub )?(returns|loop|overflow|index|part|slice|requires|invariant_of|cast|the_|in_|then|else|\w+-requires)[\w-]* :", [f for f in PROOFS if f[0].endswith("Answers.antt")])),
+    ("5c", "clauses that read the state off a month, or the facts off workings", r"(state_of S\.Readings\.meaning|facts_for R\.Readings\.meaning)"),
+    ("6a", "arrays with a count beside", r"^    \w+: \[\w+; \w+\],\n    \w+: usize,"),
+    ("6b", "lent slices with a count beside", r"^    (used: usize,\n    \w+: &'a mut \[|\w+: &'a mut \[.*\],\n    used: usize,)"),
+    ("7", "tables of functions, steps chosen by a number", r"\bfn\([^)]*\) ->|\[fn\b|match step\b"),
+    ("8", "answers in proofs/", answers),
 ]
 
 for point, what, find in POINTS:
-    found = find()
+    found = find() if callable(find) else places(find)
     print(f"{point:3} {len(found):4}  {what}")
     if "-v" in sys.argv:
         for name, line, text in found:
