@@ -34,14 +34,16 @@ impl Iterator for NewLines<'_> {
 
     fn next(&mut self) -> Option<Line> {
         while let Some((due, others)) = self.dues.split_first() {
-            let place = self.place;
-            if place < self.lines.len() {
-                self.place = place + 1;
-            } else {
-                self.place = 0;
-                self.dues = others;
+            for place in self.place..self.lines.len() {
+                let line = self.lines.line_at(self.statement, due, place);
+                if line.is_some() {
+                    self.place = place + 1;
+                    return line;
+                }
             }
-            let line = self.lines.line_at(self.statement, due, place);
+            self.place = 0;
+            self.dues = others;
+            let line = self.lines.line_at(self.statement, due, self.lines.len());
             if line.is_some() {
                 return line;
             }
