@@ -88,6 +88,13 @@ module _ (f : Facts) (r : Rates) (on : f.rates_on (last_day f) ≡ Some r) where
       let (low, high) = declared_within f.kinds p c e in
       subst (λ l. Has l (due_of f (peak_of f) r p c)) (sym all_dues) (up_to_has f (peak_of f) r (length f.kinds) p c low high e)
 
+  -- a due that covers an account is the one of its point and charge
+  pub covering_due : (a : Account) → AllByRecursion (λ d. covers d a ≡ true → d ≡ due_of f (peak_of f) r a.point a.charge) (dues_of f)
+  covering_due a =
+      subst (AllByRecursion (λ d. covers d a ≡ true → d ≡ due_of f (peak_of f) r a.point a.charge)) (sym all_dues)
+      (all_up_to f (peak_of f) r (λ d. covers d a ≡ true → d ≡ due_of f (peak_of f) r a.point a.charge) (length f.kinds)
+      (λ p c _ _ _ e. let (ep, ec) = covered_is f (peak_of f) r p c a e in ap₂ (due_of f (peak_of f) r) ep ec))
+
   -- just the accounts of the charges that declared points have are covered
   pub covered : (a : Account) → any (λ d. covers d a) (dues_of f) ≡ has_charge (kind_at f.kinds a.point) a.charge
   covered a = same_from_decides _ _ (there, back) (λ e. e, λ e. e)
