@@ -75,9 +75,9 @@ points_in l =
     omega (arith, length-take-le l.kinds.count l.kinds.places (omega arith))
 
 pub limited_for : {R H : Type 0} (meaning : R → Meaning) → ((s : R) → Sound (meaning s)) → (admits : H → ℕ → ℕ → Bool) (w : Workings R H)
-    → sound_records (records_of w.histories.now) ≡ true → Limited (facts_for meaning admits w)
+    → sound_records (records_of w.histories) ≡ true → Limited (facts_for meaning admits w)
 limited_for meaning sound admits w e =
-    limited (kinds_of w.points.now) (length_in w.calendar.now) (first_in w.calendar.now) (meaning w.readings.now) (admits w.peak_period.now) (records_of w.histories.now)
+    limited (kinds_of w.points.now) (length_in w.calendar.now) (first_in w.calendar.now) (meaning w.readings.now) (admits w.peak_period.now) (records_of w.histories)
     (points_in w.points.now) (month_in w.calendar.now) (sound w.readings.now) e
 
 -- ---- quantities, days and hours

@@ -16,15 +16,25 @@ use tariff::refusal::Refusal;
 // The subject that the rates stand under; the subjects of the other histories are points.
 pub const RATES_SUBJECT: u32 = 0;
 
+// The histories that a month keeps: each a part of the caller's memory.
 #[derive(Drop)]
-pub struct Histories<'m> {
+pub struct MonthHistories<'m> {
     pub customers: History<'m, PartyNumber>,
     pub transmitters: History<'m, PartyNumber>,
     pub service: History<'m, Service>,
     pub rates: History<'m, Rates>,
 }
 
-impl Histories<'_> {
+// Four histories that are only read, wherever each of them is kept.
+#[derive(Clone, Copy)]
+pub struct Histories<'a, 'm> {
+    pub customers: &'a History<'m, PartyNumber>,
+    pub transmitters: &'a History<'m, PartyNumber>,
+    pub service: &'a History<'m, Service>,
+    pub rates: &'a History<'m, Rates>,
+}
+
+impl Histories<'_, '_> {
     // Refuses histories of which one is not sound.
     #[tactic(auto, using(crate::proofs::Outcome::passed_here, crate::proofs::Outcome::refused_here))]
     pub fn check(&self) -> Result<(), Refusal>

@@ -13,5 +13,5 @@ pub struct Workings<'a, 'm, 'p, R, H> {
     pub calendar: &'a Calendar,
     pub readings: &'a R,
     pub peak_period: &'p H,
-    pub histories: &'a Histories<'m>,
+    pub histories: Histories<'a, 'm>,
 }

@@ -3,7 +3,7 @@
 
 mod journal;
 
-use dues::histories::Histories;
+use dues::histories::MonthHistories;
 use hours::rules::{HourRule, PeakPeriod};
 use ledger::ledger::Ledger;
 use ledger::line::Line;
@@ -35,7 +35,7 @@ fn settle<S: SheetStore + Drop, H: HourRule + Drop>(
     let mut service = [Dated::default(); 8];
     let mut rates = [Dated::default(); 8];
     let mut lines = [Line::EMPTY; 16];
-    let histories = Histories {
+    let histories = MonthHistories {
         customers: History::over(&mut customers, 0),
         transmitters: History::over(&mut transmitters, 0),
         service: History::over(&mut service, 0),

@@ -10,7 +10,7 @@ use Rattle.ledger.specs.declared.line.Line.{Line}
 use Rattle.ledger.specs.Ledgers.{shelf_of as ledger_shelf}
 use Rattle.dues.specs.Records.{Records}
 use Rattle.dues.specs.Facts.{Facts, facts_by}
-use Rattle.dues.specs.Workings.{records_of}
+use Rattle.dues.specs.Workings.{records_in}
 use Rattle.month.specs.declared.setup.MonthSetup.{MonthSetup}
 use Rattle.month.specs.declared.month.OpenMonth.{OpenMonth}
 
@@ -38,7 +38,7 @@ abbrev pub state_of : {S H : Type 0} → (S → Meaning) → (H → ℕ → ℕ 
 state_of meaning admits m = record {
   setup = setup_of m.setup (admits m.peak_period);
   store = meaning m.store;
-  records = records_of m.histories;
+  records = records_in m.histories;
   ledger = ledger_shelf m.ledger;
   last = m.last;
 }

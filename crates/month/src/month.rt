@@ -3,7 +3,7 @@ ghost use Rattle.std.specs.Prelude.{◌≡◌, None};
 
 use crate::closed::ClosedMonth;
 use crate::setup::MonthSetup;
-use dues::histories::Histories;
+use dues::histories::MonthHistories;
 use hours::rules::HourRule;
 use ledger::ledger::Ledger;
 use readings::readings::SheetStore;
@@ -21,7 +21,7 @@ pub struct OpenMonth<'a, S: SheetStore, H: HourRule> {
     setup: MonthSetup,
     store: S,
     peak_period: H,
-    histories: Histories<'a>,
+    histories: MonthHistories<'a>,
     ledger: Ledger<'a>,
     last: Option<Statement>,
 }
@@ -31,7 +31,7 @@ impl<'a, S: SheetStore, H: HourRule> OpenMonth<'a, S, H> {
         setup: MonthSetup,
         store: S,
         peak_period: H,
-        histories: Histories<'a>,
+        histories: MonthHistories<'a>,
         ledger: Ledger<'a>,
     ) -> OpenMonth<'a, S, H>
         ensures { result ≡ record { setup = setup; store = store; peak_period = peak_period; histories = histories.entry; ledger = ledger.entry; last = None } }

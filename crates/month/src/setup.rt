@@ -4,12 +4,12 @@ ghost use Rattle.tariff.specs.Points.{kinds_of, kind_declared, declared, with_po
 ghost use Rattle.calendar.specs.Calendars.{Holds};
 ghost use Rattle.calendar.specs.Marks.{refusal_of};
 ghost use Rattle.ledger.specs.Ledgers.{shelf_of as ledger_shelf};
-ghost use Rattle.dues.specs.Workings.{records_of};
+ghost use Rattle.dues.specs.Workings.{records_in};
 ghost use Rattle.month.specs.States.{state_of, setup_of, opened};
 
 use crate::month::OpenMonth;
 use calendar::month::Calendar;
-use dues::histories::Histories;
+use dues::histories::MonthHistories;
 use hours::rules::HourRule;
 use ledger::ledger::Ledger;
 use readings::readings::SheetStore;
@@ -48,10 +48,10 @@ impl MonthSetup {
         self,
         store: S,
         peak_period: H,
-        histories: Histories<'a>,
+        histories: MonthHistories<'a>,
         ledger: Ledger<'a>,
     ) -> OpenMonth<'a, S, H>
-        ensures { state_of S.Readings.meaning H.HourRule.admits result ≡ opened (setup_of self (H.HourRule.admits peak_period)) (S.Readings.meaning store) (records_of histories.entry) (ledger_shelf ledger.entry) }
+        ensures { state_of S.Readings.meaning H.HourRule.admits result ≡ opened (setup_of self (H.HourRule.admits peak_period)) (S.Readings.meaning store) (records_in histories.entry) (ledger_shelf ledger.entry) }
     {
         OpenMonth::begin(self, store, peak_period, histories, ledger)
     }

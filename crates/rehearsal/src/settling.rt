@@ -7,7 +7,7 @@ use crate::second::days::judge_month;
 use crate::tally::Tally;
 use crate::thirds::EveryThirdHour;
 use calendar::month::Calendar;
-use dues::histories::Histories;
+use dues::histories::MonthHistories;
 use hours::rules::{HourRule, PeakPeriod, WholeMonth};
 use ledger::ledger::Ledger;
 use ledger::line::Line;
@@ -105,7 +105,7 @@ fn settle<S: SheetStore + Drop, H: HourRule + Drop>(
 ) {
     let mut memory = Memory::of(book);
     let brought = &book.brought;
-    let histories = Histories {
+    let histories = MonthHistories {
         customers: History::over(memory.customers.as_mut_slice(), brought.customers.used),
         transmitters: History::over(
             memory.transmitters.as_mut_slice(),

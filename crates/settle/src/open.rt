@@ -6,7 +6,7 @@ use crate::memory::{Memory, SheetMemory};
 use crate::set_up::Opening;
 use clerk::answers::take;
 use clerk::posting::post_next;
-use dues::histories::Histories;
+use dues::histories::MonthHistories;
 use hours::rules::{HourRule, PeakPeriod};
 use job::command::Command;
 use job::lines::{JobLine, JobLines, is_call};
@@ -118,7 +118,7 @@ fn work_over<S: SheetStore + Drop, H: HourRule + Drop, W: Write>(
     memory: &mut Memory,
     lines: &mut JobLines,
 ) -> io::Result<()> {
-    let histories = Histories {
+    let histories = MonthHistories {
         customers: History::over(memory.customers.as_mut_slice(), 0),
         transmitters: History::over(memory.transmitters.as_mut_slice(), 0),
         service: History::over(memory.service.as_mut_slice(), 0),

@@ -49,7 +49,7 @@ impl<R: Readings, H: HourRule> Workings<'_, '_, '_, R, H> {
         ensures value { result ≡ connection_determinant (facts_for R.Readings.meaning H.HourRule.admits self.now).sheets (is_in_service (facts_for R.Readings.meaning H.HourRule.admits self.now).days (facts_for R.Readings.meaning H.HourRule.admits self.now).first ((facts_for R.Readings.meaning H.HourRule.admits self.now).served_on point)) (facts_for R.Readings.meaning H.HourRule.admits self.now).days point }
         ensures small { result.0 ≤ 9999999900 }
     {
-        let service = service_days(&self.histories.service, self.calendar, point);
+        let service = service_days(self.histories.service, self.calendar, point);
         connection_demand(self.readings, &service, self.calendar.days(), point)
     }
 }

@@ -8,6 +8,7 @@ ghost use Rattle.month.specs.Answers.{store_fits, dues_to_issue, plain, Takes};
 use super::OpenMonth;
 use crate::calls::Call;
 use crate::entries::{enter_party, enter_rates, enter_service};
+use dues::histories::Histories;
 use dues::list::DueList;
 use dues::workings::Workings;
 use hours::rules::HourRule;
@@ -116,7 +117,12 @@ impl<'a, S: SheetStore, H: HourRule> OpenMonth<'a, S, H> {
             calendar: &self.setup.calendar,
             readings: &self.store,
             peak_period: &self.peak_period,
-            histories: &self.histories,
+            histories: Histories {
+                customers: &self.histories.customers,
+                transmitters: &self.histories.transmitters,
+                service: &self.histories.service,
+                rates: &self.histories.rates,
+            },
         };
         workings.work_out()
     }

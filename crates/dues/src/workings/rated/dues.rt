@@ -125,9 +125,9 @@ impl<R: Readings, H: HourRule> Workings<'_, '_, '_, R, H> {
     // What is due. Histories that are not sound are refused first, then the first sheet that is missing, then what is
     // not on record. The system peak is worked out once, and each due once.
     pub fn work_out(&self) -> Result<DueList, Refusal>
-        ensures answer { result_map_both facts_in (λ e. e) result ≡ dues_answer (sound_records (records_of self.now.histories.now)) (facts_for R.Readings.meaning H.HourRule.admits self.now) }
+        ensures answer { result_map_both facts_in (λ e. e) result ≡ dues_answer (sound_records (records_of self.now.histories)) (facts_for R.Readings.meaning H.HourRule.admits self.now) }
         ensures sound { IfOk result (λ l. (every sound_due (facts_in l) ≡ true) × (distinct (facts_in l) ≡ true)) }
-        ensures by_facts { (g : Facts) → SameFacts (facts_for R.Readings.meaning H.HourRule.admits self.now) g → result_map_both facts_in (λ e. e) result ≡ dues_answer (sound_records (records_of self.now.histories.now)) g }
+        ensures by_facts { (g : Facts) → SameFacts (facts_for R.Readings.meaning H.HourRule.admits self.now) g → result_map_both facts_in (λ e. e) result ≡ dues_answer (sound_records (records_of self.now.histories)) g }
     {
         self.histories.check()?;
         let rates = self.check()?;

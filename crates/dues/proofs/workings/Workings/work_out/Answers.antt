@@ -14,7 +14,7 @@ pub returns-in_err-check : goal.returns-in_err-check
 returns-in_err-check g c =
     let w = c.args.self.now in
     let f : Facts = facts_for g.R.Readings.meaning g.H.HourRule.admits w in
-    let s : Bool = sound_records (records_of w.histories.now) in
+    let s : Bool = sound_records (records_of w.histories) in
     let r = c.from_residual.result in
     let is : r ≡ Err c.in_err-check.field-0.0 = search rules in
     let e = ap (result_map_both facts_in (λ x. x)) is ∙ unsound_out s f c.in_err-check.field-0.0 c.in_err-check.ensures in
@@ -24,7 +24,7 @@ pub returns-in_err-rates : goal.returns-in_err-rates
 returns-in_err-rates g c =
     let w = c.args.self.now in
     let f : Facts = facts_for g.R.Readings.meaning g.H.HourRule.admits w in
-    let s : Bool = sound_records (records_of w.histories.now) in
+    let s : Bool = sound_records (records_of w.histories) in
     let r = c.from_residual-in_err-rates.result in
     let is : r ≡ Err c.in_err-rates.field-0.0 = search rules in
     let sound = passed_sound s c.in_ok-check.field-0 c.in_ok-check.ensures in
@@ -35,7 +35,7 @@ pub invariant_of-rated : goal.invariant_of-rated
 invariant_of-rated g c =
     let w = c.args.self.now in
     let f : Facts = facts_for g.R.Readings.meaning g.H.HourRule.admits w in
-    let s : Bool = sound_records (records_of w.histories.now) in
+    let s : Bool = sound_records (records_of w.histories) in
     let sound = passed_sound s c.in_ok-check.field-0 c.in_ok-check.ensures in
     let ok = limited_for g.R.Readings.meaning g.met.R.Readings.sound g.H.HourRule.admits w sound in
     let (none, on) = c.in_ok-rates.ensures in
@@ -51,7 +51,7 @@ pub returns : goal.returns
 returns g c =
     let w = c.args.self.now in
     let f : Facts = facts_for g.R.Readings.meaning g.H.HourRule.admits w in
-    let s : Bool = sound_records (records_of w.histories.now) in
+    let s : Bool = sound_records (records_of w.histories) in
     let sound = passed_sound s c.in_ok-check.field-0 c.in_ok-check.ensures in
     let (none, on) = c.in_ok-rates.ensures in
     let e = worked_out s f sound c.in_ok-rates.rates c.system_peak-system.result (facts_in c.all_dues.result) none on c.system_peak-system.ensures.value c.all_dues.ensures in
