@@ -28,5 +28,5 @@ pub fn count_marks(bytes: &[u8], mark: u8) -> usize
     ensures count { result + 1 ≡ length (parts mark bytes.now) }
     ensures stands { Parts-stand mark bytes.now }
 {
-    bytes.iter().filter(|b| **b == mark).count()
+    bytes.iter().map(|b| usize::from(*b == mark)).sum()
 }
