@@ -1,13 +1,13 @@
 -- The demand of the network points as a sum over the numbers 1 to n.
-use Rattle.std.proofs.Common.{◌≡◌, ℕ, zero, suc, ◌+◌, ◌*◌, ◌<◌, ◌≤◌, true, false, List, [], ◌∷◌, map, length, get_or, Some, None, Option, sym, ap, ◌∙◌, arith}
-use Rattle.std.specs.declared.ops.RangeInclusive.{RangeInclusive}
+use Rattle.std.proofs.Common.{◌≡◌, ℕ, zero, suc, ◌+◌, ◌*◌, ◌<◌, ◌≤◌, true, List, [], ◌∷◌, map, length, get_or, Some, None, Option, sym, ap, ◌∙◌, arith}
+use Rattle.std.specs.declared.ops.Range.{Range}
 use Rattle.std.specs.Fn.{Mut}
 use Rattle.std.specs.Iterator.{ActsAs}
 use Rattle.std.specs.Iterator.Runs.{Run, SomeRun, IsMapRun}
 use Rattle.std.specs.List.{fold}
 use Rattle.std.specs.Option.{option_map}
-use Rattle.std.specs.Range.{range_inclusive_start, range_inclusive_end, range_inclusive_exhausted}
-use Rattle.std.proofs.iter.runs.Sources.{nat_range_inclusive_steps, inclusive_listed}
+use Rattle.std.proofs.iter.Yields.{nat_range_steps}
+use Rattle.std.proofs.iter.runs.Sources.{range_runs}
 use Rattle.std.proofs.lemmas.Bool.{cond_both}
 use Rattle.tariff.specs.declared.points.PointKind.{PointKind}
 use Rattle.tariff.specs.Points.{is_network, kind_at}
@@ -30,32 +30,33 @@ same_number : (o : Option ℕ) (x y : ℕ) → o ≡ Some x → o ≡ Some y →
 same_number o x y a b = let e : Some x ≡ Some y = sym a ∙ b in cc
 
 module _ (kinds : List PointKind) (sheets : Sheets) (d h : ℕ) where
+  -- what the point of a number counted from 0 adds
+  abbrev pub adds : ℕ → ℕ
+  adds k = network_demand_of kinds sheets d h (k + 1)
+
   -- a sum that goes on after the first m
-  summed : (xs : List ℕ) (m a : ℕ) → a ≡ network_demand kinds sheets d h m → ((k : ℕ) → k < length xs → get_or xs k 0 ≡ m + k + 1)
-      → fold (λ s x. s + x) a (map (network_demand_of kinds sheets d h) xs) ≡ network_demand kinds sheets d h (m + length xs)
+  summed : (xs : List ℕ) (m a : ℕ) → a ≡ network_demand kinds sheets d h m → ((k : ℕ) → k < length xs → get_or xs k 0 ≡ m + k)
+      → fold (λ s x. s + x) a (map adds xs) ≡ network_demand kinds sheets d h (m + length xs)
   summed [] m a is at = let e : m ≡ m + 0 = omega arith in is ∙ ap (network_demand kinds sheets d h) e
   summed (x ∷ xs) m a is at =
-      let f = network_demand_of kinds sheets d h in
-      let first : x ≡ suc m = omega (arith, at 0 (omega arith)) in
+      let next : x + 1 ≡ suc m = omega (arith, at 0 (omega arith)) in
       let e : suc m + length xs ≡ m + length (x ∷ xs) = omega arith in
-      let more : a + f x ≡ network_demand kinds sheets d h (suc m) = omega (arith, is, ap f first) in
-      summed xs (suc m) (a + f x) more (λ k lt. omega (arith, at (suc k) (omega arith))) ∙ ap (network_demand kinds sheets d h) e
+      let more : a + adds x ≡ network_demand kinds sheets d h (suc m) = omega (arith, is, ap (network_demand_of kinds sheets d h) next) in
+      summed xs (suc m) (a + adds x) more (λ k lt. omega (arith, at (suc k) (omega arith))) ∙ ap (network_demand kinds sheets d h) e
 
-  module _ {F S : Type 0} {steps : S → Option ℕ → S → Type 0} {g : Mut F (ℕ × Unit {0}) ℕ} {c : F} (n : ℕ) (s : RangeInclusive ℕ)
-      (start : range_inclusive_start s ≡ 1) (end : range_inclusive_end s ≡ n) (more : range_inclusive_exhausted s ≡ false) where
-    pub run_summed : (p : Run steps) → SomeRun nat_range_inclusive_steps s (λ q. IsMapRun p q g c) → ActsAs g c (network_demand_of kinds sheets d h)
+  module _ {F S : Type 0} {steps : S → Option ℕ → S → Type 0} {g : Mut F (ℕ × Unit {0}) ℕ} {c : F} (n : ℕ) (s : Range ℕ) (is : s ≡ record { start = 0; end = n }) where
+    pub run_summed : (p : Run steps) → SomeRun nat_range_steps s (λ q. IsMapRun p q g c) → ActsAs g c adds
         → (fold (λ a x. a + x) 0 p.items ≡ network_demand kinds sheets d h p.len) × (p.len ≤ n) × (p.whole ≡ true → p.len ≡ n)
     run_summed p (q, from, mapped) acts =
-        let l = inclusive_listed q q.seen in
-        let up = (l.4 (ap range_inclusive_exhausted from ∙ more)).0 in
-        let a : l.0 ≡ 1 = l.2 ∙ (ap range_inclusive_start from ∙ start) in
-        let b : l.1 ≡ n + 1 = l.3 ∙ (ap (λ t. range_inclusive_end t + 1) from ∙ ap (λ m. m + 1) end) in
+        let up = range_runs q q.seen in
+        let a : q.from.start ≡ 0 = ap (λ t. t.start) (from ∙ is) in
+        let b : q.from.end ≡ n = ap (λ t. t.end) (from ∙ is) in
         let (whole, len, _, items, _) = mapped in
-        let at : (k : ℕ) → k < length q.items → get_or q.items k 0 ≡ 0 + k + 1 =
+        let at : (k : ℕ) → k < length q.items → get_or q.items k 0 ≡ 0 + k =
         λ k lt. let there : k < q.len = omega (arith, q.long) in
-        omega (arith, a, same_number (option_map (λ y. y) (q.at k)) (get_or q.items k 0) (l.0 + k) (q.reads k 0 there) (up.3 k there)) in
+        omega (arith, a, same_number (option_map (λ y. y) (q.at k)) (get_or q.items k 0) (q.from.start + k) (q.reads k 0 there) (up.3 k there)) in
         let long : 0 + length q.items ≡ p.len = omega (arith, q.long, len) in (
-          ap (fold (λ a x. a + x) 0) (items (network_demand_of kinds sheets d h) acts) ∙ summed q.items 0 0 (omega arith) at ∙ ap (network_demand kinds sheets d h) long,
+          ap (fold (λ a x. a + x) 0) (items adds acts) ∙ summed q.items 0 0 (omega arith) at ∙ ap (network_demand kinds sheets d h) long,
           omega (arith, len, up.0, a, b),
           λ w. omega (arith, len, up.1 (whole ∙ w), a, b),
         )

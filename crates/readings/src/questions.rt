@@ -12,8 +12,8 @@ use tariff::refusal::Refusal;
 fn first_missing_day<R: Readings>(readings: &R, point: u32, days: u32) -> Option<Refusal>
     ensures { result ≡ first_of (no_sheet (R.meaning readings.now).sheets point) days }
 {
-    (1..=days).find_map(|day| {
-        (!readings.has_sheet(point, day)).then_some(Refusal::SheetMissing { point, day })
+    (0..days).find_map(|k| {
+        (!readings.has_sheet(point, k + 1)).then_some(Refusal::SheetMissing { point, day: k + 1 })
     })
 }
 
@@ -22,7 +22,12 @@ pub fn first_missing<R: Readings>(readings: &R, points: u32, days: u32) -> Optio
     ensures value { result ≡ first_missing (R.meaning readings.now).sheets points days }
     ensures first { FirstMissing (R.meaning readings.now).sheets points days result }
 {
-    (1..=points).find_map(|point| first_missing_day(readings, point, days))
+    for k in 0..points {
+        if let Some(refusal) = first_missing_day(readings, k + 1, days) {
+            return Some(refusal);
+        }
+    }
+    None
 }
 
 // The demand of a point in an hour: nothing where there is no reading.
@@ -56,7 +61,7 @@ fn added_demand<R: Readings>(
 pub fn network_demand_at<R: Readings>(readings: &R, points: &PointList, day: u32, hour: u32) -> u64
     ensures { result ≡ network_demand (kinds_of points.now) (R.meaning readings.now).sheets day hour (length (kinds_of points.now)) }
 {
-    (1..=points.count())
-        .map(|point| u64::from(added_demand(readings, points, point, day, hour)))
+    (0..points.count())
+        .map(|k| u64::from(added_demand(readings, points, k + 1, day, hour)))
         .sum()
 }
