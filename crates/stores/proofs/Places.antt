@@ -1,13 +1,9 @@
 -- Where the days of a table lie.
-use Rattle.std.proofs.Common.{◌≡◌, ℕ, ◌-◌, ◌/◌, ◌%◌, ◌<◌, ◌≤◌, List, [], ◌∷◌, map, length, get_or, Some, sym, ap, ◌∙◌, subst, arith}
-use Rattle.std.specs.Array.{list_steps}
-use Rattle.std.specs.Iterator.{Yields}
-use Rattle.std.specs.List.{AllByRecursion}
+use Rattle.std.proofs.Common.{◌≡◌, ℕ, ◌-◌, ◌/◌, ◌%◌, ◌<◌, ◌≤◌, List, map, length, get_or, sym, ap, ◌∙◌, arith}
 use Rattle.std.proofs.lemmas.Nat.{div-mul-add, mod-mul-add}
 use Rattle.std.proofs.lemmas.List.{ext_get_or, get_or-map, length-map}
 use Rattle.tariff.specs.declared.reading.Reading.{Reading}
 use Rattle.tariff.specs.declared.reading.Reading.TheVariants.{Withdrawal}
-use Rattle.tariff.specs.Readings.{Allowed}
 use Rattle.stores.specs.Words.{encoded, sheets_before}
 
 -- sheets that stand at one place are of one point and day
@@ -21,8 +17,3 @@ same_place days p d q e p1 q1 d1 dn e1 en same =
 pub all_written : (rs : List Reading) (ws : List ℕ) → length ws ≡ length rs → ((k : ℕ) → k < length ws → get_or ws k 0 ≡ encoded (get_or rs k (Withdrawal 0))) → ws ≡ map encoded rs
 all_written rs ws same each =
     ext_get_or 0 ws (map encoded rs) (same ∙ sym (length-map rs encoded)) (λ k h. each k h ∙ sym (get_or-map encoded rs k (Withdrawal 0) 0 (omega arith)))
-
--- what comes from a list that is taken item by item is an item of it
-pub allowed_at : (rs xs t u : List Reading) (r : Reading) → AllByRecursion Allowed rs → Yields list_steps rs xs t → list_steps t (Some r) u → Allowed r
-allowed_at rs [] t u r all same here = (subst (AllByRecursion Allowed) (same ∙ here) all).0
-allowed_at rs (x ∷ xs) t u r all (v, first, later) here = allowed_at v xs t u r (subst (AllByRecursion Allowed) first all).1 later here

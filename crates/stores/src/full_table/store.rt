@@ -94,7 +94,9 @@ fn write_day(words: &mut [u32], readings: &[Reading; 24])
     requires { (length words.old ≡ 24) × (AllByRecursion Allowed readings.now) }
     ensures { words.new ≡ map encoded readings.now }
 {
-    words.copy_from_slice(&readings.map(encode));
+    for (i, reading) in readings.iter().enumerate() {
+        words[i] = encode(*reading);
+    }
 }
 
 // Writes a day's readings over the 24 numbers from `start` on.
