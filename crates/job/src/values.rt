@@ -13,7 +13,7 @@ use tariff::charge::Charge;
 use tariff::parties::{PartyNumber, Service};
 use tariff::statement::Statement;
 
-// What a table has for a text. It is walked by hand: of what `find` answers no proof has shown that it is the first.
+// What a table has for a text: the value of the first entry with that name.
 #[tactic(auto, unfolding(crate::specs::Values::is_word))]
 fn look_up<T: Copy>(table: &[(&[u8], T)], text: &[u8]) -> Option<T>
     ensures { result ≡ look_up (map (λ e. (e.0.now, e.1)) table.now) text.now }
