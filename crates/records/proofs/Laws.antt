@@ -5,7 +5,7 @@ use Rattle.std.proofs.lemmas.Bool.{and_parts, and_from, true≢false}
 use Rattle.std.proofs.lemmas.Bool.Decides.{nat_tests}
 use Rattle.records.specs.declared.dated.Dated.{Dated}
 use Rattle.records.specs.Books.{precedes, stands_at, holds, leads, sorted, put, lookup, latest, book_latest}
-use Rattle.records.proofs.Steps.{or_assoc}
+use Rattle.records.proofs.Steps.{or_assoc, or_none}
 
 -- keys as numbers: a subject and a day
 abbrev lt : ℕ → ℕ → ℕ → ℕ → Bool
@@ -51,10 +51,6 @@ not_from_zero a f s h = grind (arith, nat_tests)
 
 from_before : (a f s d : ℕ) → eq a f s (suc d) ≡ false → (eqb a s && leb f (suc d)) ≡ (eqb a s && leb f d)
 from_before a f s d h = grind (arith, nat_tests)
-
-or_none : {X : Type 0} (o : Option X) → option_or o None ≡ o
-or_none (Some x) = refl
-or_none None = refl
 
 module _ {T : Type 0} where
   -- the book of a list with e entered, for any list

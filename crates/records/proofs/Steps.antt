@@ -1,22 +1,26 @@
 -- What the searches and tests of a slice of entries answer.
-use Rattle.std.proofs.Common.{zero, suc, ◌≡◌, ℕ, ◌+◌, ◌-◌, ◌<◌, ◌≤◌, min, true, false, cond, ◌&&◌, List, [], ◌∷◌, length, get_or, take, Some, None, Option, sym, refl, ap, ◌∙◌, ⊎_elim, arith}
+use Rattle.std.proofs.Common.{zero, suc, ◌≡◌, ℕ, ◌+◌, ◌-◌, ◌<◌, ◌≤◌, min, true, false, cond, ◌&&◌, ◌||◌, List, [], ◌∷◌, ◌++◌, length, get_or, take, is_some, Some, None, Option, sym, refl, ap, ◌∙◌, ⊎_elim, arith}
 use Rattle.std.specs.Option.{option_or}
-use Rattle.std.specs.List.{prefix_len, list_all, find, IsAllAdjacentAnswer}
+use Rattle.std.specs.List.{prefix_len, list_all, list_any, find, IsAllAdjacentAnswer}
 use Rattle.std.specs.Option.{unwrap_or, option_map}
-use Rattle.std.proofs.Common.{not, ltb, reverse}
+use Rattle.std.proofs.Common.{not, eqb, leb, ltb, reverse}
 use Rattle.std.proofs.lemmas.List.Sums.{prefix_len-le-length}
 use Rattle.std.proofs.lemmas.List.Folds.{find-append}
 use Rattle.std.proofs.lemmas.Bool.{lt-ltb, le-ltb}
 use Rattle.std.proofs.Common.{Bool}
 use Rattle.records.specs.Soundness.{in_range, all_in_range}
 use Rattle.std.proofs.lemmas.List.{reverse-append, take_all}
-use Rattle.std.proofs.lemmas.Bool.{cases_lt, and_from, and_right}
+use Rattle.std.proofs.lemmas.Bool.{cases_lt, and_from, and_right, true≢false}
 use Rattle.records.specs.declared.dated.Dated.{Dated}
 use Rattle.records.specs.Books.{precedes, holds, sorted, place, latest}
 
 pub or_assoc : {X : Type 0} (a b c : Option X) → option_or (option_or a b) c ≡ option_or a (option_or b c)
 or_assoc (Some x) b c = refl
 or_assoc None b c = refl
+
+pub or_none : {X : Type 0} (o : Option X) → option_or o None ≡ o
+or_none (Some x) = refl
+or_none None = refl
 
 -- the front of a slice as the checker reads `&s[0..n]`, with n at most the length
 pub take_min : {X : Type 0} (n : ℕ) (xs : List X) → take (min n (length xs) - 0) xs ≡ take n xs
@@ -58,6 +62,43 @@ pub latest_last : {T : Type 0} (xs : List (Dated T)) (s d : ℕ) → option_map 
 latest_last [] s d = refl
 latest_last (x ∷ xs) s d =
     ap (λ ys. option_map (λ y. y.item) (find (λ y. holds y s d) ys)) (reverse-append (x ∷ []) xs) ∙ ap (option_map (λ y. y.item)) (find-append (λ y. holds y s d) (reverse xs) (x ∷ [])) ∙ latest_step x (find (λ y. holds y s d) (reverse xs)) (latest xs s d) (holds x s d) (latest_last xs s d)
+
+-- what the back of a list has comes before what its front has
+pub latest_append : {T : Type 0} (xs ys : List (Dated T)) (s d : ℕ) → latest (xs ++ ys) s d ≡ option_or (latest ys s d) (latest xs s d)
+latest_append [] ys s d = sym (or_none (latest ys s d))
+latest_append (x ∷ xs) ys s d =
+    ap (λ o. option_or o (cond (holds x s d) (Some x.item) None)) (latest_append xs ys s d)
+    ∙ or_assoc (latest ys s d) (latest xs s d) (cond (holds x s d) (Some x.item) None)
+
+or_found : {X : Type 0} (a b : Option X) → true ≡ is_some a → option_or a b ≡ a
+or_found (Some x) b h = refl
+or_found None b h = absurd (true≢false h)
+
+or_missed : {X : Type 0} (a b : Option X) → false ≡ is_some a → option_or a b ≡ b
+or_missed (Some x) b h = absurd (true≢false (sym h))
+or_missed None b h = refl
+
+-- what is found at the back of a list, or is not there
+module _ {T : Type 0} (xs front back : List (Dated T)) (s d : ℕ) (o : Option T) (parts : xs ≡ front ++ back) (is : o ≡ latest back s d) where
+  in_parts : latest xs s d ≡ option_or o (latest front s d)
+  in_parts = ap (λ ys. latest ys s d) parts ∙ latest_append front back s d ∙ ap (λ p. option_or p (latest front s d)) (sym is)
+
+  pub latest_found : true ≡ is_some o → o ≡ latest xs s d
+  latest_found h = sym (in_parts ∙ or_found o (latest front s d) h)
+
+  pub latest_before : false ≡ is_some o → latest front s d ≡ latest xs s d
+  latest_before h = sym (in_parts ∙ or_missed o (latest front s d) h)
+
+none_step : {X : Type 0} (x : X) (o : Option X) (a b c : Bool) → false ≡ (a || c) → (false ≡ c → false ≡ is_some o) →
+    false ≡ is_some (option_or o (cond (a && b) (Some x) None))
+none_step x o true b c h more = absurd (true≢false (sym h))
+none_step x o false b c h more = more h ∙ sym (ap is_some (or_none o))
+
+-- nothing is found where no entry is of the subject
+pub none_met : {T : Type 0} (xs : List (Dated T)) (s d : ℕ) → false ≡ list_any (λ x. eqb x.subject s) xs → false ≡ is_some (latest xs s d)
+none_met [] s d h = refl
+none_met (x ∷ xs) s d h =
+    none_step x.item (latest xs s d) (eqb x.subject s) (leb x.from_day d) (list_any (λ y. eqb y.subject s) xs) h (none_met xs s d)
 
 pub all_ranged : {T : Type 0} (ok : T → Bool) (first last : ℕ) (xs : List (Dated T)) → list_all (in_range ok first last) xs ≡ all_in_range ok first last xs
 all_ranged ok first last [] = refl

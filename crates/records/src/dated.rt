@@ -16,7 +16,7 @@ impl<T> Dated<T> {
     pub(crate) fn precedes(&self, subject: u32, from_day: u32) -> bool
         ensures { result ≡ precedes self.now subject from_day }
     {
-        (self.subject, self.from_day) < (subject, from_day)
+        self.subject < subject || (self.subject == subject && self.from_day < from_day)
     }
 
     // Whether it is the entry of `subject` from exactly `from_day`.
