@@ -63,6 +63,6 @@ impl Histories<'_, '_> {
     pub(crate) fn first_unrecorded(&self, points: u32, day: u32) -> Option<Refusal>
         ensures { result ≡ first_of (no_parties (latest (items (records_of self.now).customers)) (latest (items (records_of self.now).transmitters)) day) points }
     {
-        (1..=points).find_map(|point| self.missing_parties(point, day))
+        (0..points).find_map(|k| self.missing_parties(k + 1, day))
     }
 }

@@ -1,4 +1,4 @@
-use Rattle.std.proofs.Common.{ℕ, Option, rules}
+use Rattle.std.proofs.Common.{ℕ, Option, refl, rules}
 use Rattle.std.proofs.iter.runs.Made.{chains}
 use Rattle.tariff.specs.declared.refusal.Refusal.{Refusal}
 use Rattle.tariff.specs.Shelves.{items}
@@ -12,4 +12,4 @@ pub returns : goal.returns
 returns c =
     let r = records_of c.args.self.now in
     let lacks : ℕ → Option Refusal = no_parties (latest (items r.customers)) (latest (items r.transmitters)) c.args.day in
-    found lacks c.args.points c.new.result c.new.ensures.start c.new.ensures.end c.new.ensures.exhausted c.find_map.result c.find_map.ensures.runs (search (rules, chains)) (search (rules, chains))
+    found lacks c.args.points _ refl c.find_map.result c.find_map.ensures.runs (search (rules, chains)) (search (rules, chains))
